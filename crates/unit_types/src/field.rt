@@ -1,0 +1,74 @@
+//! Header fields (RFC 9110, section 5).
+ghost use Rattle.std.specs.Prelude.{◌≡◌};
+
+use crate::bytes::Bytes;
+use std::marker::Model;
+
+/// One field line: a name and a value (RFC 9110, section 5).
+///
+/// In a request the name is in lower case and the value has no spaces or tabs at its ends.
+#[derive(Debug, Drop)]
+pub struct Field {
+    /// The field's name.
+    pub name: Bytes,
+    /// The field's value.
+    pub value: Bytes,
+}
+
+/// The field lines of a message in their order; a name may stand more than once. Contracts see the list itself.
+#[derive(Debug, Drop)]
+pub struct Fields {
+    list: Vec<Field>,
+}
+
+impl Model for Fields {
+    ghost use Rattle.std.specs.Prelude.{List, ℕ};
+    ghost use Rattle.unit_types.specs.declared.field.Field.{Field};
+
+    ghost Value = { List Field };
+
+    ghost view = { λ f. f.list.items };
+}
+
+impl Fields {
+    /// The field lines of `list`, without a copy.
+    pub fn of(list: Vec<Field>) -> Fields
+        ensures { result ≡ list.items }
+    {
+        Fields { list }
+    }
+
+    /// The field lines as a slice.
+    pub fn as_slice(&self) -> &[Field]
+        ensures { result.now ≡ self.now }
+    {
+        self.list.as_slice()
+    }
+
+    /// The field lines as a vector, without a copy.
+    pub fn into_vec(self) -> Vec<Field>
+        ensures { result.items ≡ self }
+    {
+        self.list
+    }
+}
+
+#[cfg(test)]
+mod tests {
+    use super::*;
+
+    #[test]
+    fn keeps_the_order(rt: HostRuntime) {
+        let mut list = Vec::new(rt.alloc());
+        for value in [b"x=1", b"y=2"] {
+            let field = Field {
+                name: Bytes::copy_of(rt.alloc(), b"cookie").expect(&rt, "copied"),
+                value: Bytes::copy_of(rt.alloc(), value).expect(&rt, "copied"),
+            };
+            list.push(field).expect(&rt, "pushed");
+        }
+        let fields = Fields::of(Fields::of(list).into_vec());
+        assert!(rt; fields.as_slice().len() == 2);
+        assert!(rt; fields.as_slice()[1].value.as_slice() == b"y=2".as_slice());
+    }
+}
