@@ -1,0 +1,43 @@
+-- What the memory forms hold, and what each call makes of it. A call is known by its number, from 0.
+use Rattle.std.specs.Prelude.{ℕ, ◌++◌, min, List, length, drop, slice_index_or}
+use Rattle.unit_io.specs.Causes.{one_more}
+
+-- a source over memory: what is still to come, the most that each read hands out, the numbers of the reads that
+-- fail, and how many reads and faults there were
+pub record Script : Type 0 where
+  pub left : List ℕ
+  pub pieces : List ℕ
+  pub fail_at : List ℕ
+  pub calls : ℕ
+  pub faults : ℕ
+
+-- a sink over memory: what was written, the numbers of the writes that fail, and how many writes and faults there were
+pub record Tape : Type 0 where
+  pub written : List ℕ
+  pub fail_at : List ℕ
+  pub calls : ℕ
+  pub faults : ℕ
+
+-- the most that the next read hands out; behind the last piece it is all that is left
+abbrev pub piece_of : Script → ℕ
+piece_of s = slice_index_or s.pieces s.calls (length s.left)
+
+-- how many bytes the next read hands out into a buffer of that room, if it doesn't fail
+abbrev pub handed_out : Script → ℕ → ℕ
+handed_out s room = min room (min (piece_of s) (length s.left))
+
+-- the source after a read of n bytes
+abbrev pub after_read : Script → ℕ → Script
+after_read s n = record { left = drop n s.left; pieces = s.pieces; fail_at = s.fail_at; calls = one_more s.calls; faults = s.faults }
+
+-- the source after a read that failed
+abbrev pub after_failed_read : Script → Script
+after_failed_read s = record { left = s.left; pieces = s.pieces; fail_at = s.fail_at; calls = one_more s.calls; faults = one_more s.faults }
+
+-- the sink after these were written
+abbrev pub after_write : Tape → List ℕ → Tape
+after_write t bytes = record { written = t.written ++ bytes; fail_at = t.fail_at; calls = one_more t.calls; faults = t.faults }
+
+-- the sink after a write that failed
+abbrev pub after_failed_write : Tape → Tape
+after_failed_write t = record { written = t.written; fail_at = t.fail_at; calls = one_more t.calls; faults = one_more t.faults }
