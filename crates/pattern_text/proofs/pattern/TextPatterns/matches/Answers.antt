@@ -1,0 +1,5 @@
+use Rattle.pattern_text.proofs.ListLemmas.{slice_gives}
+use Rattle.pattern_text.proofs.pattern.TextPatterns.matches.Goals as goal
+
+pub returns : goal.returns
+returns c = c.matches_bytes.ensures c.args.text.now (slice_gives _)
