@@ -1,5 +1,5 @@
 -- Stretches of one length, joined, are the bytes that were cut.
-use Rattle.std.proofs.Common.{◌≡◌, ℕ, zero, suc, ◌+◌, ◌-◌, ◌*◌, ◌/◌, ◌<◌, ◌≤◌, List, [], ◌∷◌, ◌++◌, length, take, drop, get_or, min, map, refl, sym, ap, ap₂, ◌∙◌, arith}
+use Rattle.std.proofs.Common.{◌≡◌, ℕ, zero, suc, ◌+◌, ◌-◌, ◌*◌, ◌/◌, ◌<◌, ◌≤◌, List, [], ◌∷◌, ◌++◌, length, take, drop, get_or, min, map, sym, ap, ap₂, ◌∙◌, arith}
 use Rattle.std.specs.List.{concat, range_with_len}
 use Rattle.std.proofs.lemmas.List.{append-nil, take_all, length-take, length-drop}
 use Rattle.std.proofs.Math.Nat.{mul-le-mul_left}
@@ -41,18 +41,18 @@ is_cut size bytes some =
     let counted : length (stretches_of size bytes) ≡ count = length-map-range_with_len of 0 count in
     let enough : length bytes ≤ size * count = omega arith in
     let at : (number : ℕ) → number < length (stretches_of size bytes) → get_or (stretches_of size bytes) number [] ≡ take size (drop (size * number) bytes) =
-      λ number lt. get_or-map-range_with_len of 0 count number number [] (omega arith) (omega arith) in
+    λ number lt. get_or-map-range_with_len of 0 count number number [] (omega arith) (omega arith) in
     let long : (number : ℕ) → number < length (stretches_of size bytes) → length (get_or (stretches_of size bytes) number []) ≡ min size (length bytes - size * number) =
-      λ number lt. ap length (at number lt) ∙ length-take size (drop (size * number) bytes) ∙ ap (λ (k : ℕ). min size k) (length-drop (size * number) bytes) in
+    λ number lt. ap length (at number lt) ∙ length-take size (drop (size * number) bytes) ∙ ap (λ (k : ℕ). min size k) (length-drop (size * number) bytes) in
     record {
       joined = front_joined size bytes count ∙ take_all (size * count) bytes enough;
       count = counted;
       each = at;
       lengths = long;
       full = λ number lt.
-        let next : size * (number + 1) < length bytes = begins size (length bytes) (number + 1) some (omega (arith, counted)) in
-        omega (arith, long number (omega arith), next);
+          let next : size * (number + 1) < length bytes = begins size (length bytes) (number + 1) some (omega (arith, counted)) in
+          omega (arith, long number (omega arith), next);
       filled = λ number lt.
-        let this : size * number < length bytes = begins size (length bytes) number some (omega (arith, counted)) in
-        omega (arith, long number lt, this, some);
+          let this : size * number < length bytes = begins size (length bytes) number some (omega (arith, counted)) in
+          omega (arith, long number lt, this, some);
     }

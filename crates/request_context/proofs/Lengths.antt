@@ -1,10 +1,10 @@
 -- The length of a record is the sum of its parts' lengths.
-use Rattle.std.proofs.Common.{◌≡◌, ℕ, ◌+◌, List, [], ◌∷◌, ◌++◌, length, refl, sym, ap, ◌∙◌, arith}
+use Rattle.std.proofs.Common.{◌≡◌, ℕ, ◌+◌, List, [], ◌∷◌, ◌++◌, length, refl, ap, ◌∙◌, arith}
 use Rattle.std.specs.Prelude.{sum_by}
 use Rattle.std.specs.Int.{w8, w16, w32, w64}
 use Rattle.std.specs.List.{flat_map}
 use Rattle.std.proofs.lemmas.List.{length-append}
-use Rattle.std.proofs.lemmas.List.Concat.{length-flat_map, flat_map-cons}
+use Rattle.std.proofs.lemmas.List.Concat.{flat_map-cons}
 use Rattle.std.proofs.lemmas.List.Sums.{sum_by-cons}
 use Rattle.unit_types.specs.Record.{number, length_prefixed, field_bytes, field_list_bytes, reply_record}
 use Rattle.unit_types.specs.declared.field.Field.{Field}
@@ -12,7 +12,7 @@ use Rattle.unit_types.specs.declared.message.Addr.{Addr}
 use Rattle.unit_types.specs.declared.message.Reply.{Reply}
 use Rattle.unit_types.specs.declared.message.Request.{Request}
 use Rattle.request_context.specs.declared.asked.Asked.{Asked}
-use Rattle.request_context.specs.Record.{addr_bytes, head_bytes, request_record, field_size, field_list_size, request_size, request_record_size, reply_record_size}
+use Rattle.request_context.specs.Record.{addr_bytes, head_bytes, request_record, field_size, field_list_size, request_record_size, reply_record_size}
 use Rattle.request_context.proofs.Readers.{length-number}
 
 text_length : (text : List ℕ) → length (length_prefixed text) ≡ 4 + length text
@@ -51,14 +51,14 @@ unfolding request_record
 request_length asked =
     let request = asked.request in
     let all : length (request_record asked) ≡ 8 + ((4 + length asked.name) + ((1 + ((4 + length request.method) + ((4 + length request.target) + ((4 + length request.path) + ((4 + length request.query) + (4 + length request.host))))))
-        + (6 + (6 + (field_list_size request.fields + (4 + length request.body)))))) =
-      then_length _ _ _ _ (length-number w64 asked.stream) (then_length _ _ _ _ (text_length asked.name) (then_length _ _ _ _ (head_length request)
-      (then_length _ _ _ _ (addr_length request.from) (then_length _ _ _ _ (addr_length request.to) (then_length _ _ _ _ (field_list_length request.fields) (text_length request.body)))))) in
+    + (6 + (6 + (field_list_size request.fields + (4 + length request.body)))))) =
+    then_length _ _ _ _ (length-number w64 asked.stream) (then_length _ _ _ _ (text_length asked.name) (then_length _ _ _ _ (head_length request)
+    (then_length _ _ _ _ (addr_length request.from) (then_length _ _ _ _ (addr_length request.to) (then_length _ _ _ _ (field_list_length request.fields) (text_length request.body)))))) in
     omega (arith, all)
 
 pub reply_length : (reply : Reply) → length (reply_record reply) ≡ reply_record_size reply
 unfolding reply_record
 reply_length reply =
     let all : length (reply_record reply) ≡ 2 + (field_list_size reply.fields + (4 + length reply.body)) =
-      then_length _ _ _ _ (length-number w16 reply.status) (then_length _ _ _ _ (field_list_length reply.fields) (text_length reply.body)) in
+    then_length _ _ _ _ (length-number w16 reply.status) (then_length _ _ _ _ (field_list_length reply.fields) (text_length reply.body)) in
     omega (arith, all)

@@ -52,14 +52,14 @@ pub both_read : {X Y : Type 0} (first : List ℕ → Option (X × List ℕ)) (se
     → IsReader first spelled fits → IsReader second spelled' fits' → IsReader (both first second) (λ p. spelled p.0 ++ spelled' p.1) (λ p. fits p.0 × fits' p.1)
 both_read {X = X} {Y = Y} first second spelled spelled' fits fits' ra rb = record {
   takes = λ bytes x ok e.
-    let a = bind_some (first bytes) (λ (p : X × List ℕ). second p.1 >>= λ y. Some ((p.0, y.0), y.1)) x e in
-    let b = bind_some (second a.0.1) (λ (y : Y × List ℕ). Some ((a.0.0, y.0), y.1)) x a.2 in
-    let t = ra.takes bytes a.0 ok a.1 in
-    let u = rb.takes a.0.1 b.0 t.0.rest_fits b.1 in
-    subst (λ (y : (X × Y) × List ℕ). Takes bytes (spelled y.0.0 ++ spelled' y.0.1) y.1 × (fits y.0.0 × fits' y.0.1)) (some_is ((a.0.0, b.0.0), b.0.1) x b.2)
+      let a = bind_some (first bytes) (λ (p : X × List ℕ). second p.1 >>= λ y. Some ((p.0, y.0), y.1)) x e in
+      let b = bind_some (second a.0.1) (λ (y : Y × List ℕ). Some ((a.0.0, y.0), y.1)) x a.2 in
+      let t = ra.takes bytes a.0 ok a.1 in
+      let u = rb.takes a.0.1 b.0 t.0.rest_fits b.1 in
+      subst (λ (y : (X × Y) × List ℕ). Takes bytes (spelled y.0.0 ++ spelled' y.0.1) y.1 × (fits y.0.0 × fits' y.0.1)) (some_is ((a.0.0, b.0.0), b.0.1) x b.2)
       (Takes-then bytes (spelled a.0.0) a.0.1 (spelled' b.0.0) b.0.1 t.0 u.0, (t.1, u.1));
   again = λ x rest f.
-    ap (both first second) (append_assoc (spelled x.0) (spelled' x.1) rest) ∙ rw (ra.again x.0 (spelled' x.1 ++ rest) f.0, rb.again x.1 rest f.1) refl;
+      ap (both first second) (append_assoc (spelled x.0) (spelled' x.1) rest) ∙ rw (ra.again x.0 (spelled' x.1 ++ rest) f.0, rb.again x.1 rest f.1) refl;
 }
 
 pub made_read : {X Y : Type 0} (make : X → Y) (split : Y → X) (at : List ℕ → Option (X × List ℕ)) (spelled : X → List ℕ) (spelled' : Y → List ℕ) (fits : X → Type 0) (fits' : Y → Type 0)
@@ -67,14 +67,14 @@ pub made_read : {X Y : Type 0} (make : X → Y) (split : Y → X) (at : List ℕ
     → IsReader at spelled fits → IsReader (made make at) spelled' fits'
 made_read {X = X} {Y = Y} make split at spelled spelled' fits fits' inverse same to from r = record {
   takes = λ bytes y ok e.
-    let a = bind_some (at bytes) (λ (x : X × List ℕ). Some (make x.0, x.1)) y e in
-    let t = r.takes bytes a.0 ok a.1 in
-    subst (λ (z : Y × List ℕ). Takes bytes (spelled' z.0) z.1 × fits' z.0) (some_is (make a.0.0, a.0.1) y a.2)
+      let a = bind_some (at bytes) (λ (x : X × List ℕ). Some (make x.0, x.1)) y e in
+      let t = r.takes bytes a.0 ok a.1 in
+      subst (λ (z : Y × List ℕ). Takes bytes (spelled' z.0) z.1 × fits' z.0) (some_is (make a.0.0, a.0.1) y a.2)
       (subst (λ (text : List ℕ). Takes bytes text a.0.1) (sym (same a.0.0)) t.0, to a.0.0 t.1);
   again = λ y rest f.
-    let text : spelled' y ≡ spelled (split y) = ap spelled' (sym (inverse y)) ∙ same (split y) in
-    let read : at (spelled (split y) ++ rest) ≡ Some (split y, rest) = r.again (split y) rest (from y f) in
-    ap (λ (t : List ℕ). made make at (t ++ rest)) text ∙ rw (read, inverse y) refl;
+      let text : spelled' y ≡ spelled (split y) = ap spelled' (sym (inverse y)) ∙ same (split y) in
+      let read : at (spelled (split y) ++ rest) ≡ Some (split y, rest) = r.again (split y) rest (from y f) in
+      ap (λ (t : List ℕ). made make at (t ++ rest)) text ∙ rw (read, inverse y) refl;
 }
 
 -- ---- numbers

@@ -51,9 +51,10 @@ field_list_takes bytes x fits e =
     let a = bind_some (number_at w32 bytes) (λ (n : ℕ × List ℕ). fields_at n.0 n.1) x e in
     let first = number32_read.takes bytes a.0 fits a.1 in
     let second = fields_take a.0.0 a.0.1 x first.0.rest_fits a.2 in
-    let joined = Takes-then bytes (number w32 a.0.0) a.0.1 (flat_map field_bytes x.0) x.1 first.0 second.0 in
-    (subst (λ (k : ℕ). Takes bytes (number w32 k ++ flat_map field_bytes x.0) x.1) (sym second.1) joined,
-     record { count = omega (arith, second.1, first.1); each = All-from_recursion IsShortField x.0 second.2 })
+    let joined = Takes-then bytes (number w32 a.0.0) a.0.1 (flat_map field_bytes x.0) x.1 first.0 second.0 in (
+      subst (λ (k : ℕ). Takes bytes (number w32 k ++ flat_map field_bytes x.0) x.1) (sym second.1) joined,
+      record { count = omega (arith, second.1, first.1); each = All-from_recursion IsShortField x.0 second.2 },
+    )
 
 field_list_again : (fields : List Field) (rest : List ℕ) → AreShortFields fields → field_list_at (field_list_bytes fields ++ rest) ≡ Some (fields, rest)
 unfolding field_list_at field_list_bytes
@@ -106,11 +107,13 @@ asked_read = made_read make_asked
     HasRecord
     (λ asked. refl) (λ x. refl)
     (λ x f. let h = f.1.1.0 in record {
-      stream = f.0; from = f.1.1.1.0; to = f.1.1.1.1.0;
+      stream = f.0;
+      from = f.1.1.1.0;
+      to = f.1.1.1.1.0;
       parts = record { minor = h.minor; name = f.1.0; method = h.method; target = h.target; path = h.path; query = h.query; host = h.host; fields = f.1.1.1.1.1.0; body = f.1.1.1.1.1.1 };
     })
     (λ asked f. let p = f.parts in
-      (f.stream, (p.name, (record { minor = p.minor; method = p.method; target = p.target; path = p.path; query = p.query; host = p.host }, (f.from, (f.to, (p.fields, p.body)))))))
+    (f.stream, (p.name, (record { minor = p.minor; method = p.method; target = p.target; path = p.path; query = p.query; host = p.host }, (f.from, (f.to, (p.fields, p.body)))))))
     (both_read _ _ _ _ _ _ number64_read (both_read _ _ _ _ _ _ text_read (both_read _ _ _ _ _ _ head_read (both_read _ _ _ _ _ _ addr_read (both_read _ _ _ _ _ _ addr_read (both_read _ _ _ _ _ _ field_list_read text_read))))))
 
 pub reply_read : IsReader reply_at reply_record HasReplyRecord

@@ -83,8 +83,16 @@ head_at bytes = made make_head (both minor_at (both text_at (both text_at (both 
 
 abbrev pub make_request : Head → Addr → Addr → List Field → List ℕ → Request
 make_request head from to fields body = record {
-  method = head.method; target = head.target; path = head.path; query = head.query; host = head.host; minor = head.minor;
-  fields = fields; from = from; to = to; body = body;
+  method = head.method;
+  target = head.target;
+  path = head.path;
+  query = head.query;
+  host = head.host;
+  minor = head.minor;
+  fields = fields;
+  from = from;
+  to = to;
+  body = body;
 }
 
 abbrev pub make_asked : ℕ × (List ℕ × (Head × (Addr × (Addr × (List Field × List ℕ))))) → Asked

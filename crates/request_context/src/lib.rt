@@ -16,3 +16,6 @@ pub use laws::{
 };
 pub use reading::{read_record, read_reply};
 pub use writing::{write_record, write_reply};
+
+#[cfg(test)]
+mod tests;
