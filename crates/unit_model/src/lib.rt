@@ -1,0 +1,15 @@
+//! The model of what engines and workers share: runs of chunks, the shape of a fabric, and the sums by which it is said
+//! who holds what.
+//!
+//! It hands on the types of `unit_types`.
+#![tactic(auto)]
+
+mod runs;
+mod shape;
+
+pub use runs::{Run, Seen, no_longer_run, run_has_its_chunks};
+pub use shape::Shape;
+pub use unit_types::{Addr, Bytes, Field, Fields, Handlers, Reply, Request};
+
+#[cfg(test)]
+mod tests;
