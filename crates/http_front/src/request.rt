@@ -1,0 +1,102 @@
+//! A request out of its head (RFC 9110, section 7; RFC 9112, section 3).
+ghost use Rattle.std.specs.Prelude.{◌≡◌, ◌<◌, ◌≤◌, [], length, map, position, All, IfOk, IfSome};
+ghost use Rattle.httparse.specs.Spans.{IsRequestAt, IsRequestWithin, IsHeaderWithin};
+ghost use Rattle.http_header.specs.FieldName.{IsFieldName};
+ghost use Rattle.http_front.specs.Head.{head_in};
+ghost use Rattle.http_front.specs.Message as spec;
+
+use crate::host::host_of;
+use http_header::HeaderName;
+use httparse::spans::{HeaderSpan, RequestSpans};
+use std::alloc::{AllocError, Global};
+use unit_types::{Addr, Bytes, Field, Fields, Request};
+
+/// The request, without content, of a head whose parts stand at these places of its block.
+pub(crate) fn request_of(
+    alloc: Global,
+    from: Addr,
+    to: Addr,
+    block: &[u8],
+    spans: &RequestSpans,
+    headers: &[HeaderSpan],
+) -> Result<Request, AllocError>
+    requires short { length block.now ≤ 16384 }
+    requires at { IsRequestAt block.now headers.now spans.now (head_in block.now) }
+    requires within { IsRequestWithin block.now headers.now spans.now }
+    ensures { IfOk result (λ r. r ≡ spec.request_of from to (spec.message_of (head_in block.now) [])) }
+{
+    let target = spans.path.of(block);
+    let fields = fields_of(alloc, block, &headers[..spans.headers])?;
+    Ok(Request {
+        method: Bytes::copy_of(alloc, spans.method.of(block))?,
+        target: Bytes::copy_of(alloc, target)?,
+        path: Bytes::copy_of(alloc, path_of(target))?,
+        query: Bytes::copy_of(alloc, query_of(target))?,
+        host: host_of(alloc, fields.as_slice())?,
+        minor: spans.version,
+        fields,
+        from,
+        to,
+        body: Bytes::of(Vec::new(alloc)),
+    })
+}
+
+fn path_of(target: &[u8]) -> &[u8]
+    ensures { result.now ≡ spec.path_of target.now }
+{
+    match question_place(target) {
+        Some(at) => &target[..at],
+        None => target,
+    }
+}
+
+fn query_of(target: &[u8]) -> &[u8]
+    ensures { result.now ≡ spec.query_of target.now }
+{
+    match question_place(target) {
+        Some(at) => &target[at + 1..],
+        None => b"".as_slice(),
+    }
+}
+
+// where the first question mark stands
+fn question_place(target: &[u8]) -> Option<usize>
+    ensures place { result ≡ position spec.is_question target.now }
+    ensures within { IfSome result (λ at. at < length target.now) }
+{
+    target.iter().position(|b| *b == b'?')
+}
+
+fn fields_of(alloc: Global, block: &[u8], headers: &[HeaderSpan]) -> Result<Fields, AllocError>
+    requires within { All (IsHeaderWithin (length block.now)) headers.now }
+    requires names { All (spec.HasFieldName block.now) headers.now }
+    ensures { IfOk result (λ fields. fields ≡ map (spec.field_at block.now) headers.now) }
+{
+    let mut fields = Vec::new(alloc);
+    for header in headers {
+        fields.push(field_at(alloc, block, *header)?)?;
+    }
+    Ok(Fields::of(fields))
+}
+
+fn field_at(alloc: Global, block: &[u8], header: HeaderSpan) -> Result<Field, AllocError>
+    requires within { IsHeaderWithin (length block.now) header }
+    requires named { spec.HasFieldName block.now header }
+    ensures { IfOk result (λ field. field ≡ spec.field_at block.now header) }
+{
+    Ok(Field {
+        name: lower_name(alloc, header.name.of(block))?,
+        value: Bytes::copy_of(alloc, header.value.of(block))?,
+    })
+}
+
+// the name of a field in lower case; the only error left is want of memory
+fn lower_name(alloc: Global, name: &[u8]) -> Result<Bytes, AllocError>
+    requires { IsFieldName name.now }
+    ensures { IfOk result (λ lower. lower ≡ spec.lowercase name.now) }
+{
+    match HeaderName::from_bytes(alloc, name) {
+        Ok(lower) => Bytes::copy_of(alloc, lower.as_bytes()),
+        Err(_) => Err(AllocError),
+    }
+}

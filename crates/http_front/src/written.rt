@@ -1,0 +1,269 @@
+//! Replies as the bytes of HTTP/1.1 (RFC 9112, sections 4 to 6).
+ghost use Rattle.std.specs.Prelude.{◌≡◌, ◌++◌, ◌<◌, ◌||◌, flat_map, IfOk, OnOk, OnErr};
+ghost use Rattle.http_front.specs.Written as spec;
+
+use itoa::Buffer;
+use std::alloc::{AllocError, Global};
+use std::mem::replace;
+use unit_types::{Bytes, Field, Fields, Reply};
+
+/// Puts the bytes of a reply behind `out`: without content where `head`, the request's method, is HEAD, and with
+/// `Connection: close` where the connection closes behind it.
+///
+/// Fails for want of memory alone; `out` is then as before.
+pub fn write_http(
+    alloc: Global,
+    reply: &Reply,
+    head: bool,
+    close: bool,
+    out: &mut Bytes,
+) -> Result<(), AllocError>
+    requires { reply.now.status < 1000 }
+    ensures ok { OnOk result (out.new ≡ out.old ++ spec.http_bytes reply.now head close) }
+    ensures err { OnErr result (out.new ≡ out.old) }
+{
+    let text = head_text(alloc, reply, close)?;
+    append_both(alloc, out, text.as_slice(), content_of(reply, head))
+}
+
+// puts both texts behind `out`, or none
+fn append_both(
+    alloc: Global,
+    out: &mut Bytes,
+    first: &[u8],
+    second: &[u8],
+) -> Result<(), AllocError>
+    ensures ok { OnOk result (out.new ≡ out.old ++ (first.now ++ second.now)) }
+    ensures err { OnErr result (out.new ≡ out.old) }
+{
+    let mut items = replace(out, Bytes::of(Vec::new(alloc))).into_vec();
+    let extended = extend_by_both(&mut items, first, second);
+    *out = Bytes::of(items);
+    extended
+}
+
+fn extend_by_both(items: &mut Vec<u8>, first: &[u8], second: &[u8]) -> Result<(), AllocError>
+    ensures ok { OnOk result (items.new.items ≡ items.old.items ++ (first.now ++ second.now)) }
+    ensures err { OnErr result (items.new.items ≡ items.old.items) }
+{
+    let len = items.len();
+    items.extend_from_slice(first)?;
+    let extended = items.extend_from_slice(second);
+    if extended.is_err() {
+        items.truncate(len);
+    }
+    extended
+}
+
+// the content that is written: none for a HEAD request
+fn content_of(reply: &Reply, head: bool) -> &[u8]
+    ensures { result.now ≡ spec.content_unless (head || spec.has_no_content reply.now.status) reply.now.body }
+{
+    if head || has_no_content(reply.status) {
+        b"".as_slice()
+    } else {
+        reply.body.as_slice()
+    }
+}
+
+// the bytes of a reply up to its content
+fn head_text(alloc: Global, reply: &Reply, close: bool) -> Result<Vec<u8>, AllocError>
+    requires { reply.now.status < 1000 }
+    ensures { IfOk result (λ text. text.items ≡ spec.head_text reply.now close) }
+{
+    let mut text = Vec::new(alloc);
+    put_status_line(&mut text, reply.status)?;
+    put_kept_lines(&mut text, reply.fields.as_slice())?;
+    put_length_line(
+        &mut text,
+        has_no_content(reply.status),
+        reply.body.as_slice().len(),
+    )?;
+    put_close_line(&mut text, close)?;
+    text.extend_from_slice(b"\r\n")?;
+    Ok(text)
+}
+
+fn has_no_content(status: u16) -> bool
+    ensures { result ≡ spec.has_no_content status }
+{
+    status == 204 || status == 304
+}
+
+fn put_status_line(text: &mut Vec<u8>, status: u16) -> Result<(), AllocError>
+    requires { status < 1000 }
+    ensures { OnOk result (text.new.items ≡ text.old.items ++ spec.status_line status) }
+{
+    text.extend_from_slice(b"HTTP/1.1 ")?;
+    text.extend_from_slice(&three_digits(status))?;
+    text.extend_from_slice(b" ")?;
+    text.extend_from_slice(phrase_of(status).as_bytes())?;
+    text.extend_from_slice(b"\r\n")?;
+    Ok(())
+}
+
+fn three_digits(status: u16) -> [u8; 3]
+    requires { status < 1000 }
+    ensures { result ≡ spec.three_digits status }
+{
+    [
+        b'0' + (status / 100) as u8,
+        b'0' + (status / 10 % 10) as u8,
+        b'0' + (status % 10) as u8,
+    ]
+}
+
+fn put_kept_lines(text: &mut Vec<u8>, fields: &[Field]) -> Result<(), AllocError>
+    ensures { OnOk result (text.new.items ≡ text.old.items ++ flat_map spec.kept_line fields.now) }
+{
+    for field in fields {
+        put_kept_line(text, field)?;
+    }
+    Ok(())
+}
+
+fn put_kept_line(text: &mut Vec<u8>, field: &Field) -> Result<(), AllocError>
+    ensures { OnOk result (text.new.items ≡ text.old.items ++ spec.kept_line field.now) }
+{
+    if is_framing_name(field.name.as_slice()) {
+        return Ok(());
+    }
+    put_line(text, field.name.as_slice(), field.value.as_slice())
+}
+
+fn put_length_line(text: &mut Vec<u8>, lacks_content: bool, len: usize) -> Result<(), AllocError>
+    ensures { OnOk result (text.new.items ≡ text.old.items ++ spec.length_line lacks_content len) }
+{
+    if lacks_content {
+        return Ok(());
+    }
+    let mut digits = Buffer::new();
+    put_line(text, b"Content-Length", digits.format(len).as_bytes())
+}
+
+fn put_close_line(text: &mut Vec<u8>, close: bool) -> Result<(), AllocError>
+    ensures { OnOk result (text.new.items ≡ text.old.items ++ spec.close_line close) }
+{
+    if !close {
+        return Ok(());
+    }
+    put_line(text, b"Connection", b"close")
+}
+
+fn put_line(text: &mut Vec<u8>, name: &[u8], value: &[u8]) -> Result<(), AllocError>
+    ensures { OnOk result (text.new.items ≡ text.old.items ++ spec.field_line name.now value.now) }
+{
+    text.extend_from_slice(name)?;
+    text.extend_from_slice(b": ")?;
+    text.extend_from_slice(value)?;
+    text.extend_from_slice(b"\r\n")?;
+    Ok(())
+}
+
+fn is_framing_name(name: &[u8]) -> bool
+    ensures { result ≡ spec.is_framing_name name.now }
+{
+    name.eq_ignore_ascii_case(b"content-length")
+        || name.eq_ignore_ascii_case(b"connection")
+        || name.eq_ignore_ascii_case(b"transfer-encoding")
+}
+
+fn phrase_of(status: u16) -> &'static str
+    ensures { result.now ≡ spec.phrase_of status }
+{
+    match status {
+        100 => "Continue",
+        200 => "OK",
+        201 => "Created",
+        202 => "Accepted",
+        204 => "No Content",
+        206 => "Partial Content",
+        301 => "Moved Permanently",
+        302 => "Found",
+        303 => "See Other",
+        304 => "Not Modified",
+        307 => "Temporary Redirect",
+        308 => "Permanent Redirect",
+        400 => "Bad Request",
+        401 => "Unauthorized",
+        403 => "Forbidden",
+        404 => "Not Found",
+        405 => "Method Not Allowed",
+        409 => "Conflict",
+        410 => "Gone",
+        413 => "Content Too Large",
+        414 => "URI Too Long",
+        429 => "Too Many Requests",
+        431 => "Request Header Fields Too Large",
+        500 => "Internal Server Error",
+        501 => "Not Implemented",
+        502 => "Bad Gateway",
+        503 => "Service Unavailable",
+        504 => "Gateway Timeout",
+        _ => "",
+    }
+}
+
+/// The error reply of a status: its number in words of plain text.
+///
+/// Fails for want of memory alone.
+pub fn error_reply(alloc: Global, status: u16) -> Result<Reply, AllocError>
+    requires { status < 1000 }
+    ensures { IfOk result (λ reply. reply ≡ spec.error_reply status) }
+{
+    let mut fields = Vec::new(alloc);
+    fields.push(Field {
+        name: Bytes::copy_of(alloc, b"Content-Type")?,
+        value: Bytes::copy_of(alloc, b"text/plain")?,
+    })?;
+    let mut body = Bytes::copy_of(alloc, b"Error ")?;
+    body.append(&three_digits(status))?;
+    body.append(b".\r\n")?;
+    Ok(Reply {
+        status,
+        fields: Fields::of(fields),
+        body,
+    })
+}
+
+#[cfg(test)]
+mod tests {
+    use super::*;
+
+    #[test]
+    fn writes_a_reply(rt: HostRuntime) {
+        let mut fields = Vec::new(rt.alloc());
+        for (name, value) in [
+            (b"Content-Type".as_slice(), b"text/plain".as_slice()),
+            (b"content-LENGTH".as_slice(), b"7".as_slice()),
+        ] {
+            let field = Field {
+                name: Bytes::copy_of(rt.alloc(), name).expect(&rt, "copied"),
+                value: Bytes::copy_of(rt.alloc(), value).expect(&rt, "copied"),
+            };
+            fields.push(field).expect(&rt, "pushed");
+        }
+        let reply = Reply {
+            status: 200,
+            fields: Fields::of(fields),
+            body: Bytes::copy_of(rt.alloc(), b"Hello, world!\n").expect(&rt, "copied"),
+        };
+        let mut out = Bytes::copy_of(rt.alloc(), b"").expect(&rt, "copied");
+        write_http(rt.alloc(), &reply, false, false, &mut out).expect(&rt, "written");
+        assert!(rt;
+            out.as_slice()
+                == b"HTTP/1.1 200 OK\r\nContent-Type: text/plain\r\nContent-Length: 14\r\n\r\nHello, world!\n".as_slice()
+        );
+    }
+
+    #[test]
+    fn writes_an_error(rt: HostRuntime) {
+        let reply = error_reply(rt.alloc(), 400).expect(&rt, "made");
+        let mut out = Bytes::copy_of(rt.alloc(), b"").expect(&rt, "copied");
+        write_http(rt.alloc(), &reply, false, true, &mut out).expect(&rt, "written");
+        assert!(rt;
+            out.as_slice()
+                == b"HTTP/1.1 400 Bad Request\r\nContent-Type: text/plain\r\nContent-Length: 12\r\nConnection: close\r\n\r\nError 400.\r\n".as_slice()
+        );
+    }
+}

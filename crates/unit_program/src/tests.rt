@@ -1,0 +1,142 @@
+//! Worked rows: what each command writes for its input, and with which status it ends.
+
+use crate::handlers::ProgramHandlers;
+use std::alloc::AllocError;
+use unit_io::{MemSink, MemSource};
+use unit_top::unit_top;
+use unit_types::Bytes;
+
+const GET: &[u8] = b"GET / HTTP/1.1\r\nHost: a\r\n\r\n";
+const GREETED: &[u8] =
+    b"HTTP/1.1 200 OK\r\nContent-Type: text/plain\r\nContent-Length: 14\r\n\r\nHello, world!\n";
+
+// The calls that fail, by their numbers.
+#[derive(Clone, Copy, Drop)]
+struct Faults<'a> {
+    reads: &'a [u64],
+    writes: &'a [u64],
+    errors: &'a [u64],
+}
+
+const NO_FAULTS: Faults<'static> = Faults {
+    reads: &[],
+    writes: &[],
+    errors: &[],
+};
+
+#[derive(Drop)]
+struct Outcome {
+    status: u8,
+    out: Bytes,
+    err: Bytes,
+}
+
+impl Outcome {
+    fn is(&self, status: u8, out: &[u8], err: &[u8]) -> bool {
+        self.status == status && self.out.as_slice() == out && self.err.as_slice() == err
+    }
+}
+
+fn run(rt: &HostRuntime, words: &[&str], input: &[u8], faults: Faults<'_>) -> Result<Outcome, AllocError> {
+    let alloc = rt.alloc();
+    let mut owned = Vec::new(alloc);
+    for word in words {
+        owned.push(String::from_str(alloc, word)?)?;
+    }
+    let handlers = ProgramHandlers::open(alloc)?;
+    let mut src = MemSource::open(
+        Bytes::copy_of(alloc, input)?,
+        Vec::new(alloc),
+        Vec::from_slice(alloc, faults.reads)?,
+    );
+    let mut out = MemSink::open(alloc, Vec::from_slice(alloc, faults.writes)?);
+    let mut err = MemSink::open(alloc, Vec::from_slice(alloc, faults.errors)?);
+    let status = unit_top(alloc, owned.as_slice(), &mut src, &mut out, &mut err, &handlers);
+    Ok(Outcome {
+        status,
+        out: Bytes::copy_of(alloc, out.written())?,
+        err: Bytes::copy_of(alloc, err.written())?,
+    })
+}
+
+fn once(rt: &HostRuntime, input: &[u8]) -> Result<Outcome, AllocError> {
+    run(rt, &["once", "hello"], input, NO_FAULTS)
+}
+
+#[test]
+fn one_get(rt: HostRuntime) {
+    let outcome = once(&rt, GET).expect(&rt, "memory");
+    assert!(rt; outcome.is(0, GREETED, b""));
+}
+
+#[test]
+fn no_whole_request(rt: HostRuntime) {
+    for input in [b"".as_slice(), b"GET / HT".as_slice(), b"\r\n\n".as_slice()] {
+        let outcome = once(&rt, input).expect(&rt, "memory");
+        assert!(rt; outcome.is(0, b"", b""));
+    }
+}
+
+#[test]
+fn no_host(rt: HostRuntime) {
+    let input = b"GET / HTTP/1.1\r\n\r\nGET / HTTP/1.1\r\nHost: a\r\n\r\n";
+    let wanted = b"HTTP/1.1 400 Bad Request\r\nContent-Type: text/plain\r\nContent-Length: 12\r\nConnection: close\r\n\r\nError 400.\r\n";
+    let outcome = once(&rt, input).expect(&rt, "memory");
+    assert!(rt; outcome.is(0, wanted, b""));
+}
+
+#[test]
+fn post_is_not_served(rt: HostRuntime) {
+    let input = b"POST / HTTP/1.1\r\nHost: a\r\nContent-Length: 0\r\n\r\n";
+    let wanted = b"HTTP/1.1 501 Not Implemented\r\nContent-Type: text/plain\r\nContent-Length: 12\r\nConnection: close\r\n\r\nError 501.\r\n";
+    let outcome = once(&rt, input).expect(&rt, "memory");
+    assert!(rt; outcome.is(0, wanted, b""));
+}
+
+#[test]
+fn faulty_words(rt: HostRuntime) {
+    let forms: [&[&str]; 5] = [
+        &[],
+        &["once"],
+        &["once", "nobody"],
+        &["once", "hello", "hello"],
+        &["twice", "hello"],
+    ];
+    for words in forms {
+        let outcome = run(&rt, words, GET, NO_FAULTS).expect(&rt, "memory");
+        assert!(rt; outcome.is(2, b"", b"unit: usage\n"));
+    }
+}
+
+#[test]
+fn failing_source(rt: HostRuntime) {
+    let faults = Faults {
+        reads: &[0],
+        writes: &[],
+        errors: &[],
+    };
+    let outcome = run(&rt, &["once", "hello"], GET, faults).expect(&rt, "memory");
+    assert!(rt; outcome.is(3, b"", b"unit: read\n"));
+}
+
+#[test]
+fn failing_sink(rt: HostRuntime) {
+    let faults = Faults {
+        reads: &[],
+        writes: &[1],
+        errors: &[],
+    };
+    let outcome = run(&rt, &["once", "hello"], GET, faults).expect(&rt, "memory");
+    assert!(rt; outcome.is(4, &GREETED[..64], b"unit: write\n"));
+}
+
+#[test]
+fn failing_err_changes_no_status(rt: HostRuntime) {
+    let faults = Faults {
+        reads: &[],
+        writes: &[],
+        errors: &[0],
+    };
+    let outcome = run(&rt, &["once"], GET, faults).expect(&rt, "memory");
+    assert!(rt; outcome.is(2, b"", b""));
+}

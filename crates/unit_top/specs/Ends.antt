@@ -1,0 +1,38 @@
+-- What a command leaves, by the status with which it ends.
+use Rattle.std.specs.Prelude.{ℕ, ◌≡◌, ◌≢◌, ◌<◌, ◌⊎◌, List, length, Option}
+use Rattle.unit_types.specs.declared.message.Request.{Request}
+use Rattle.unit_types.specs.declared.message.Reply.{Reply}
+use Rattle.unit_io.specs.Causes.{Rose}
+use Rattle.unit_io.specs.Told.{Adds, AddsFront}
+use Rattle.http_front.specs.Session.{once_of}
+use Rattle.unit_top.specs.Command.{Command, Once}
+use Rattle.unit_top.specs.Status.{input_limit}
+
+-- the statuses: all done, a faulty command line, a source that failed, a sink that failed, no memory, a faulty input
+abbrev pub IsStatus : ℕ → Type 0
+IsStatus status = (status ≡ 0) ⊎ ((status ≡ 2) ⊎ ((status ≡ 3) ⊎ ((status ≡ 4) ⊎ ((status ≡ 5) ⊎ (status ≡ 6)))))
+
+-- the statuses with which nothing is written
+abbrev pub IsSilent : ℕ → Type 0
+IsSilent status = (status ≡ 2) ⊎ ((status ≡ 3) ⊎ (status ≡ 6))
+
+-- what a command writes for its input
+abbrev pub output_of : (List ℕ → Request → Reply) → Command → List ℕ → List ℕ
+output_of reply_of (Once handler) input = once_of reply_of handler input
+
+-- the part of the output that each status says was written: all, a front of it, or none
+pub record Leaves (status : ℕ) (before after : Option (List ℕ)) (output : List ℕ) : Type 0 where
+  pub whole : status ≡ 0 → Adds before after output
+  pub front : (status ≡ 4) ⊎ (status ≡ 5) → AddsFront before after output
+
+-- the causes of the statuses that faults bring: each comes only where the count of faults rose
+pub record HasCauses (status src_before src_after out_before out_after : ℕ) : Type 0 where
+  pub read : status ≡ 3 → Rose src_before src_after
+  pub no_read_fault : status ≢ 3 → src_after ≡ src_before
+  pub write : status ≡ 4 → Rose out_before out_after
+  pub no_write_fault : status ≢ 4 → out_after ≡ out_before
+
+-- the input is too long exactly where the status says so, but where the words, a fault or want of memory came first
+pub record IsTooLong (status : ℕ) (input : List ℕ) : Type 0 where
+  pub told : status ≡ 6 → input_limit < length input
+  pub only : input_limit < length input → (status ≢ 0) × (status ≢ 4)

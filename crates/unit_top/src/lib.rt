@@ -1,0 +1,11 @@
+//! The commands of the program on one thread: words and an input in, an output and a status out.
+#![tactic(auto)]
+
+mod command;
+mod input;
+mod once;
+mod output;
+mod stop;
+mod top;
+
+pub use top::unit_top;
