@@ -20,7 +20,7 @@ IsSilent status = (status ≡ 2) ⊎ ((status ≡ 3) ⊎ (status ≡ 6))
 abbrev pub output_of : (List ℕ → Request → Reply) → Command → List ℕ → List ℕ
 output_of reply_of (Once handler) input = once_of reply_of handler input
 
--- the part of the output that each status says was written: all, a front of it, or none
+-- the part of the output that was written: all of it with status 0, a front of it where it broke off
 pub record Leaves (status : ℕ) (before after : Option (List ℕ)) (output : List ℕ) : Type 0 where
   pub whole : status ≡ 0 → Adds before after output
   pub front : (status ≡ 4) ⊎ (status ≡ 5) → AddsFront before after output
