@@ -1,0 +1,8 @@
+pub mod Views
+pub mod Documents
+mod Listed
+mod Members
+mod Search
+mod Indices
+mod Items
+mod Children
