@@ -1,5 +1,5 @@
 -- What a change keeps of a document.
-use Rattle.std.proofs.Common.{◌≡◌, ℕ, zero, suc, List, [], ◌∷◌, Option, Some, None, Ordering, Less, Equal, Greater, IsUtf8, IfSome, option_map, option_and_then, refl, sym, ap, ◌∙◌, subst}
+use Rattle.std.proofs.Common.{◌≡◌, ℕ, zero, suc, List, [], ◌∷◌, Option, Some, None, Ordering, Less, Equal, Greater, IsUtf8, IfSome, IfOk, OnErr, Result, Ok, Err, option_map, option_and_then, refl, sym, ap, ◌∙◌, subst}
 use Rattle.std.proofs.lemmas.Cmp.{nat_list_cmp_total}
 use Rattle.std.specs.Cmp.Lexicographic.{slice_cmp}
 use Rattle.std.specs.List.{AllByRecursion}
@@ -7,8 +7,15 @@ use Rattle.std.specs.Ordering.{nat_cmp, match_ordering, ordering_reverse}
 use Rattle.std.specs.Prelude.{⊤}
 use Rattle.serde_json.specs.Data.{Data, null, boolean, number, string, array, object, Items, no_items, item, Members, no_members, member, put as put_member}
 use Rattle.serde_json.specs.Find.{get_item, get_member}
+use Rattle.conf_tree.specs.Answers.{Puts, Appends, Removes}
 use Rattle.conf_tree.specs.Document.{ComeAfter, IsDocument, AreDocuments, AreMembers}
 use Rattle.conf_tree.specs.Paths.{Change, changed, absent, no_array, child, index_of, set_item, remove_item, push_item, remove_member, array_or_absent, object_or_absent, put_child, remove_child, append_item, kept_in, change_child, put, append, remove}
+use Rattle.conf_tree.specs.declared.answers.Put.{Put}
+use Rattle.conf_tree.specs.declared.answers.Put.TheVariants as puts
+use Rattle.conf_tree.specs.declared.answers.Append.{Append}
+use Rattle.conf_tree.specs.declared.answers.Append.TheVariants as appends
+use Rattle.conf_tree.specs.declared.answers.Remove.{Remove}
+use Rattle.conf_tree.specs.declared.answers.Remove.TheVariants as removes
 
 turned : (k l : List ℕ) → slice_cmp nat_cmp k l ≡ ordering_reverse (slice_cmp nat_cmp l k)
 turned k l = nat_list_cmp_total.antisymm k l
@@ -163,3 +170,20 @@ pub remove_document : (ks : List (List ℕ)) (d : Data) → AllByRecursion IsUtf
 remove_document [] d u h = tt
 remove_document (k ∷ []) d u h = remove_child_document k d h
 remove_document (k ∷ l ∷ ks) d u h = change_child_document k (remove (l ∷ ks)) d (child k d) u.0 h (λ c x. remove_document (l ∷ ks) c u.1 x) (child_is_document k d h)
+
+-- ---- after the call
+
+pub puts_document : {E : Type 0} (r : Result Put E) (change : Change) (old new : Data) → IsDocument old → IfChanged change IsDocument → IfOk r (λ a. Puts a change old new) → OnErr r (new ≡ old) → IsDocument new
+puts_document (Ok puts.Done) change old new h k p e = subst (λ c. IfChanged c IsDocument) p k
+puts_document (Ok puts.Absent) change old new h k p e = subst IsDocument (sym p.1) h
+puts_document (Err x) change old new h k p e = subst IsDocument (sym e) h
+
+pub appends_document : {E : Type 0} (r : Result Append E) (change : Change) (old new : Data) → IsDocument old → IfChanged change IsDocument → IfOk r (λ a. Appends a change old new) → OnErr r (new ≡ old) → IsDocument new
+appends_document (Ok appends.Done) change old new h k p e = subst (λ c. IfChanged c IsDocument) p k
+appends_document (Ok appends.Absent) change old new h k p e = subst IsDocument (sym p.1) h
+appends_document (Ok appends.NoArray) change old new h k p e = subst IsDocument (sym p.1) h
+appends_document (Err x) change old new h k p e = subst IsDocument (sym e) h
+
+pub removes_document : (a : Remove) (change : Change) (old new : Data) → IsDocument old → IfChanged change IsDocument → Removes a change old new → IsDocument new
+removes_document removes.Done change old new h k p = subst (λ c. IfChanged c IsDocument) p k
+removes_document removes.Absent change old new h k p = subst IsDocument (sym p.1) h

@@ -6,3 +6,5 @@ mod Search
 mod Indices
 mod Items
 mod Children
+mod Parts
+mod Through

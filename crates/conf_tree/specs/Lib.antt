@@ -2,3 +2,4 @@ pub mod View
 pub mod Paths
 pub mod Document
 pub mod Places
+pub mod Answers
