@@ -3,7 +3,7 @@ use Rattle.std.proofs.Common.{◌≡◌, ℕ, zero, suc, ◌<◌, ◌≤◌, Lis
 use Rattle.std.proofs.lemmas.List.{map-set}
 use Rattle.std.proofs.Math.ListN.{get_or-map}
 use Rattle.std.proofs.Math.Seq.{map-set_same}
-use Rattle.serde_json.specs.Data.{Data, null, boolean, number, string, array, object, Items, Members}
+use Rattle.serde_json.specs.Data.{Data, array, object, no_members}
 use Rattle.serde_json.specs.View.{items_of}
 use Rattle.conf_tree.specs.Answers.{Puts, Appends, Removes}
 use Rattle.conf_tree.specs.Paths.{Change, changed, absent, no_array, index_of, child, set_item, array_or_absent, put_child, remove_child, change_child, put, append, remove}
@@ -82,3 +82,16 @@ put_unfound k (l ∷ ks) v d some e = ap (change_child k (put (l ∷ ks) v) d) e
 pub remove_nowhere : (k : List ℕ) (ks : List (List ℕ)) (d : Data) → child k d ≡ None → remove_child k d ≡ absent → remove (k ∷ ks) d ≡ absent
 remove_nowhere k [] d e h = h
 remove_nowhere k (l ∷ ks) d e h = ap (change_child k (remove (l ∷ ks)) d) e
+
+pub append_nowhere : (k : List ℕ) (ks : List (List ℕ)) (v d : Data) → child k d ≡ None → append (k ∷ ks) v d ≡ absent
+append_nowhere k ks v d e = ap (change_child k (append ks v) d) e
+
+-- ---- the last key
+
+pub remove_last : (k : List ℕ) (ks : List (List ℕ)) (d : Data) → length ks ≡ 0 → remove (k ∷ ks) d ≡ remove_child k d
+remove_last k [] d e = refl
+remove_last k (l ∷ ks) d e = absurd (omega arith)
+
+pub remove_whole : (ks : List (List ℕ)) (d : Data) → length ks ≡ 0 → remove ks d ≡ changed (object no_members)
+remove_whole [] d e = refl
+remove_whole (k ∷ ks) d e = absurd (omega arith)

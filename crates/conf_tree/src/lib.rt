@@ -2,14 +2,18 @@
 #![tactic(auto)]
 
 mod answers;
+mod append_item;
 mod index;
 mod lookup;
 mod path;
 mod put_value;
+mod remove_value;
 mod tree;
 
 pub use answers::{Append, Put, Remove};
+pub use append_item::append;
 pub use lookup::get;
 pub use path::Path;
 pub use put_value::put;
+pub use remove_value::remove;
 pub use tree::{Tree, TreeList, TreeMap};

@@ -1,10 +1,11 @@
 //! Paths.
 ghost use Rattle.std.specs.Prelude.{◌≡◌, List, ℕ, All, IsUtf8};
 
+use std::alloc::Global;
 use std::marker::Model;
 use unit_types::Bytes;
 
-/// The keys that lead to a value.
+/// The keys that lead to a value: names of members, and indices of items. Contracts see the list of the keys.
 #[derive(Drop)]
 pub struct Path {
     keys: Vec<Bytes>,
@@ -21,6 +22,7 @@ impl Model for Path {
 }
 
 impl Path {
+    /// The path of these keys, without a copy. Each key is UTF-8.
     pub fn of(keys: Vec<Bytes>) -> Path
         requires { All IsUtf8 keys.items }
         ensures { result ≡ keys.items }
@@ -28,6 +30,12 @@ impl Path {
         Path { keys }
     }
 
+    /// The allocator of the list of keys.
+    pub(crate) fn allocator(&self) -> Global {
+        *self.keys.allocator()
+    }
+
+    /// The keys as a slice.
     pub(crate) fn as_slice(&self) -> &[Bytes]
         ensures keys { result.now ≡ self.now }
         ensures utf8 { All IsUtf8 result.now }
