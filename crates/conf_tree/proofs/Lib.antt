@@ -6,5 +6,6 @@ mod Search
 mod Indices
 mod Items
 mod Children
+mod Reading
 mod Parts
 mod Through

@@ -3,3 +3,4 @@ pub mod Paths
 pub mod Document
 pub mod Places
 pub mod Answers
+pub mod Text

@@ -7,13 +7,17 @@ mod index;
 mod lookup;
 mod path;
 mod put_value;
+mod read;
 mod remove_value;
 mod tree;
+mod write;
 
 pub use answers::{Append, Put, Remove};
 pub use append_item::append;
 pub use lookup::get;
 pub use path::Path;
 pub use put_value::put;
+pub use read::read_tree;
 pub use remove_value::remove;
 pub use tree::{Tree, TreeList, TreeMap};
+pub use write::write_tree;
