@@ -6,6 +6,8 @@ mod Search
 mod Indices
 mod Items
 mod Children
+mod Decimals
 mod Reading
+mod Writing
 mod Parts
 mod Through
