@@ -3,6 +3,7 @@
 
 mod answers;
 mod append_item;
+mod copy;
 mod index;
 mod lookup;
 mod path;
