@@ -13,6 +13,9 @@ mod remove_value;
 mod tree;
 mod write;
 
+#[cfg(test)]
+mod tests;
+
 pub use answers::{Append, Put, Remove};
 pub use append_item::append;
 pub use lookup::get;
