@@ -1,15 +1,15 @@
 -- The value that a key names, from what a search for the key found.
-use Rattle.std.proofs.Common.{◌≡◌, ℕ, zero, suc, ◌<◌, ◌≤◌, List, [], ◌∷◌, length, get_or, set, map, Option, Some, None, option_and_then, refl, sym, ap, ◌∙◌, arith, Vec, Global}
+use Rattle.std.proofs.Common.{◌≡◌, ℕ, zero, suc, ◌<◌, ◌≤◌, List, [], ◌∷◌, length, get_or, map, Option, Some, None, option_and_then, refl, ap, ◌∙◌, arith}
 use Rattle.std.proofs.lemmas.List.{get_or-map}
-use Rattle.serde_json.specs.Data.{Data, array, object}
+use Rattle.serde_json.specs.Data.{array, object}
 use Rattle.serde_json.specs.Find.{get_item}
 use Rattle.conf_tree.specs.Paths.{index_of, child}
-use Rattle.conf_tree.specs.Places.{HasNameAt, IsGapAt, IsIndexBelow}
+use Rattle.conf_tree.specs.Places.{HasNameAt}
 use Rattle.conf_tree.specs.View.{data_of, list_data, members_of, named}
 use Rattle.conf_tree.specs.declared.tree.Tree.{Tree}
 use Rattle.conf_tree.specs.declared.tree.Member.{Member}
 use Rattle.conf_tree.proofs.Items.{get_item_within, get_item_past}
-use Rattle.conf_tree.proofs.Members.{get_named, get_unnamed}
+use Rattle.conf_tree.proofs.Members.{get_named}
 
 pub child_item : (k : List ℕ) (ts : List Tree) (i : ℕ) (d : Tree) → index_of k ≡ Some i → i < length ts → child k (array (list_data ts)) ≡ Some (data_of (get_or ts i d))
 child_item k ts i d e h = ap (option_and_then (λ j. get_item j (list_data ts))) e ∙ get_item_within ts i d h

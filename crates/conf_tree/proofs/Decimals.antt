@@ -1,5 +1,5 @@
 -- The decimal text of an integer of any size up to 128 bits is a number of JSON (RFC 8259, section 6).
-use Rattle.std.proofs.Common.{◌≡◌, ℕ, ℤ, pos, negsuc, zero, suc, ◌+◌, ◌/◌, ◌%◌, ◌^◌, ◌<◌, ◌≤◌, Bool, true, false, cond, ◌==◌, ◌&&◌, List, [], ◌∷◌, ◌++◌, length, drop, get_or, Option, Some, option_and_then, decimal, refl, sym, ap, ◌∙◌, arith, le-leb, ne_eqb, length-append}
+use Rattle.std.proofs.Common.{◌≡◌, ℕ, ℤ, pos, negsuc, zero, suc, ◌+◌, ◌%◌, ◌^◌, ◌<◌, ◌≤◌, false, cond, ◌==◌, List, [], ◌∷◌, ◌++◌, length, drop, get_or, Some, option_and_then, decimal, refl, ap, ◌∙◌, arith, le-leb, ne_eqb, length-append}
 use Rattle.std.proofs.lemmas.List.{drop_all, get_or_append_left}
 use Rattle.std.proofs.lemmas.Fmt.{decimal_by_steps_wide, decimal_digit}
 use Rattle.std.specs.Char.{is_ascii_digit}
@@ -29,13 +29,13 @@ whole_decimal n some small =
     decimal_by_steps_wide (λ m ds. 0 < m → IsWhole ds)
     (λ m l a. record { digits = (omega arith, omega arith, tt); some = omega arith; first = omega arith })
     (λ m ds l h a.
-        let front = h (omega arith) in
-        let last = (48 + m % 10) ∷ [] in
-        record {
-          digits = digits_append ds last front.digits (omega arith, omega arith, tt);
-          some = omega (arith, length-append ds last);
-          first = omega (arith, get_or_append_left ds last 0 0 front.some, front.first);
-        }) n small some
+    let front = h (omega arith) in
+    let last = (48 + m % 10) ∷ [] in
+    record {
+      digits = digits_append ds last front.digits (omega arith, omega arith, tt);
+      some = omega (arith, length-append ds last);
+      first = omega (arith, get_or_append_left ds last 0 0 front.some, front.first);
+    }) n small some
 
 all_digits : (ds : List ℕ) → AreDigits ds → prefix_len is_ascii_digit ds ≡ length ds
 all_digits [] h = refl

@@ -7,6 +7,7 @@ use Rattle.std.specs.Ordering.{nat_cmp, match_ordering, ordering_reverse}
 use Rattle.std.specs.Prelude.{⊤}
 use Rattle.serde_json.specs.Data.{Data, null, boolean, number, string, array, object, Items, no_items, item, Members, no_members, member, put as put_member}
 use Rattle.serde_json.specs.Find.{get_item, get_member}
+use Rattle.conf_tree.proofs.Order.{turned}
 use Rattle.conf_tree.specs.Answers.{Puts, Appends, Removes}
 use Rattle.conf_tree.specs.Document.{ComeAfter, IsDocument, AreDocuments, AreMembers}
 use Rattle.conf_tree.specs.Paths.{Change, changed, absent, no_array, child, index_of, set_item, remove_item, push_item, remove_member, array_or_absent, object_or_absent, put_child, remove_child, append_item, kept_in, change_child, put, append, remove}
@@ -16,9 +17,6 @@ use Rattle.conf_tree.specs.declared.answers.Append.{Append}
 use Rattle.conf_tree.specs.declared.answers.Append.TheVariants as appends
 use Rattle.conf_tree.specs.declared.answers.Remove.{Remove}
 use Rattle.conf_tree.specs.declared.answers.Remove.TheVariants as removes
-
-turned : (k l : List ℕ) → slice_cmp nat_cmp k l ≡ ordering_reverse (slice_cmp nat_cmp l k)
-turned k l = nat_list_cmp_total.antisymm k l
 
 IfSome-map : {A B : Type 0} (P : A → Type 0) (Q : B → Type 0) (f : A → B) (o : Option A) → ((x : A) → P x → Q (f x)) → IfSome o P → IfSome (option_map f o) Q
 IfSome-map P Q f None g h = tt

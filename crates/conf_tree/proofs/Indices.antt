@@ -1,5 +1,5 @@
 -- Digits, read from the left.
-use Rattle.std.proofs.Common.{◌≡◌, ℕ, zero, suc, ◌+◌, ◌-◌, ◌*◌, ◌<◌, ◌≤◌, ◌&&◌, ◌==◌, nat_le, List, [], ◌∷◌, length, get_or, drop, Bool, true, false, cond, Option, Some, None, refl, sym, ap, ◌∙◌, arith, ne_eqb, eq-eqb, le-leb}
+use Rattle.std.proofs.Common.{◌≡◌, ℕ, zero, suc, ◌+◌, ◌-◌, ◌*◌, ◌<◌, ◌≤◌, ◌&&◌, ◌==◌, nat_le, List, [], ◌∷◌, length, get_or, drop, Bool, true, false, cond, Option, Some, None, refl, arith, eq-eqb, le-leb}
 use Rattle.conf_tree.specs.Paths.{digits_from, index_of}
 
 unwrapped : (a b : ℕ) → Some a ≡ Some b → a ≡ b

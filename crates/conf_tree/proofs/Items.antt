@@ -1,7 +1,7 @@
 -- Items as a list: what an index finds.
-use Rattle.std.proofs.Common.{◌≡◌, ℕ, zero, suc, ◌<◌, ◌≤◌, List, [], ◌∷◌, ◌++◌, length, get_or, set, map, Option, Some, None, option_map, refl, ap, arith}
+use Rattle.std.proofs.Common.{◌≡◌, ℕ, zero, suc, ◌<◌, ◌≤◌, List, [], ◌∷◌, ◌++◌, length, get_or, set, Some, None, option_map, refl, ap, arith}
 use Rattle.std.specs.List.{remove}
-use Rattle.serde_json.specs.Data.{Data, Items, item}
+use Rattle.serde_json.specs.Data.{Data, item}
 use Rattle.serde_json.specs.Find.{get_item}
 use Rattle.conf_tree.specs.Paths.{set_item, remove_item, push_item}
 use Rattle.conf_tree.specs.View.{data_of, list_data}

@@ -1,5 +1,6 @@
 pub mod Views
 pub mod Documents
+mod Order
 mod Listed
 mod Members
 mod Search

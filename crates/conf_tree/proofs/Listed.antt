@@ -1,5 +1,5 @@
 -- Members and items by their place.
-use Rattle.std.proofs.Common.{◌≡◌, ℕ, zero, suc, ◌<◌, ◌≤◌, List, [], ◌∷◌, length, get_or, map, Option, Some, None, refl, ap, arith}
+use Rattle.std.proofs.Common.{◌≡◌, ℕ, zero, suc, ◌<◌, ◌≤◌, List, [], ◌∷◌, length, get_or, map, Some, None, refl, ap, arith}
 use Rattle.std.specs.List.{insert, remove}
 use Rattle.serde_json.specs.Events.{members_len}
 use Rattle.conf_tree.specs.View.{data_of, members_of, named, name_at, value_at}

@@ -1,13 +1,13 @@
 -- Members as a list: what a name finds where it stands, or where it belongs.
-use Rattle.std.proofs.Common.{◌≡◌, ℕ, zero, suc, ◌+◌, ◌<◌, ◌≤◌, List, [], ◌∷◌, ◌++◌, length, get_or, set, take, drop, Option, Some, None, Ordering, Less, Equal, Greater, option_map, refl, sym, ap, ◌∙◌, arith, rules}
+use Rattle.std.proofs.Common.{◌≡◌, ℕ, zero, suc, List, [], ◌∷◌, get_or, set, Some, None, Equal, option_map, refl, ap, arith}
 use Rattle.std.proofs.lemmas.Cmp.{nat_list_cmp_total, tied_itself}
 use Rattle.std.specs.Cmp.Lexicographic.{slice_cmp}
 use Rattle.std.specs.List.{insert, remove}
-use Rattle.std.specs.Ordering.{nat_cmp, match_ordering}
-use Rattle.serde_json.specs.Data.{Data, Members, no_members, member, put}
+use Rattle.std.specs.Ordering.{nat_cmp}
+use Rattle.serde_json.specs.Data.{Data, member, put}
 use Rattle.serde_json.specs.Find.{get_member}
 use Rattle.conf_tree.specs.Paths.{remove_member}
-use Rattle.conf_tree.specs.Places.{AreBefore, AreAfter, HasNameAt, IsGapAt}
+use Rattle.conf_tree.specs.Places.{AreAfter, HasNameAt, IsGapAt}
 use Rattle.conf_tree.specs.View.{Named, members_of}
 
 same_name : (k l : List ℕ) → k ≡ l → slice_cmp nat_cmp l k ≡ Equal

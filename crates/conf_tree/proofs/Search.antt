@@ -1,15 +1,16 @@
 -- A binary search among members whose names ascend.
-use Rattle.std.proofs.Common.{◌≡◌, ℕ, zero, suc, ◌+◌, ◌<◌, ◌≤◌, List, [], ◌∷◌, length, get_or, take, drop, map, Result, Ok, Err, Ordering, Less, Equal, Greater, is_eq, refl, sym, ap, ◌∙◌, subst, arith, rules, add-one}
+use Rattle.std.proofs.Common.{◌≡◌, ℕ, zero, suc, ◌<◌, List, [], ◌∷◌, length, get_or, take, drop, map, Result, Ok, Err, Ordering, Less, Equal, Greater, is_eq, refl, sym, ap, ◌∙◌, subst, arith, add-one}
 use Rattle.std.proofs.lemmas.Cmp.{nat_list_cmp_total}
 use Rattle.std.proofs.lemmas.List.Sorted.{searchable_from_sorted}
 use Rattle.std.proofs.lemmas.Map.Text.{is_eq-slice_cmp}
 use Rattle.std.proofs.lemmas.Slice.Eq.{bytes_eq-Decides}
 use Rattle.std.specs.Cmp.Lexicographic.{slice_cmp}
 use Rattle.std.specs.List.{AllWithin}
-use Rattle.std.specs.List.Sorted.{IsBinarySearchResult, IsSearchInRange, IsSortedBy, IsNonDecreasingBy}
-use Rattle.std.specs.Ordering.{nat_cmp, ordering_reverse, is_lt, ordering_index}
+use Rattle.std.specs.List.Sorted.{IsBinarySearchResult, IsSearchInRange, IsSortedBy}
+use Rattle.std.specs.Ordering.{nat_cmp, ordering_reverse, is_lt}
+use Rattle.conf_tree.proofs.Order.{turned}
 use Rattle.conf_tree.specs.Document.{ComeAfter, AreMembers}
-use Rattle.conf_tree.specs.Places.{AreBefore, AreAfter, HasNameAt, IsGapAt, IsPlaceOf}
+use Rattle.conf_tree.specs.Places.{AreBefore, AreAfter, IsPlaceOf}
 use Rattle.conf_tree.specs.View.{Named, members_of, named}
 use Rattle.conf_tree.specs.declared.tree.Member.{Member}
 
@@ -19,9 +20,6 @@ same_key k l e = (bytes_eq-Decides k l).0 (sym (is_eq-slice_cmp k l) ∙ ap is_e
 -- the answer of a search for k at a member
 abbrev answer : List ℕ → Member → Ordering
 answer k m = slice_cmp nat_cmp m.key k
-
-turned : (k l : List ℕ) → slice_cmp nat_cmp k l ≡ ordering_reverse (slice_cmp nat_cmp l k)
-turned k l = nat_list_cmp_total.antisymm k l
 
 after_at : (k : List ℕ) (ms : List Member) (i : ℕ) (d : Member) → ComeAfter k (members_of (map named ms)) → i < length ms → slice_cmp nat_cmp k (get_or ms i d).key ≡ Less
 after_at k [] i d h lt = absurd (omega arith)

@@ -1,12 +1,12 @@
 -- A change of what a key names, seen from the value that the key is looked up in.
-use Rattle.std.proofs.Common.{◌≡◌, ℕ, zero, suc, ◌<◌, ◌≤◌, List, [], ◌∷◌, length, get_or, set, map, Option, Some, None, option_and_then, refl, sym, ap, ap₂, ◌∙◌, subst, arith}
+use Rattle.std.proofs.Common.{◌≡◌, ℕ, ◌<◌, List, [], ◌∷◌, length, get_or, set, map, Some, None, option_and_then, refl, sym, ap, ap₂, ◌∙◌, subst, arith}
 use Rattle.std.proofs.lemmas.List.{map-set}
 use Rattle.std.proofs.Math.ListN.{get_or-map}
 use Rattle.std.proofs.Math.Seq.{map-set_same}
 use Rattle.serde_json.specs.Data.{Data, array, object, no_members}
 use Rattle.serde_json.specs.View.{items_of}
 use Rattle.conf_tree.specs.Answers.{Puts, Appends, Removes}
-use Rattle.conf_tree.specs.Paths.{Change, changed, absent, no_array, index_of, child, set_item, array_or_absent, put_child, remove_child, change_child, put, append, remove}
+use Rattle.conf_tree.specs.Paths.{changed, absent, index_of, child, set_item, array_or_absent, put_child, remove_child, change_child, put, append, remove}
 use Rattle.conf_tree.specs.Places.{HasNameAt}
 use Rattle.conf_tree.specs.View.{Named, data_of, list_data, members_of, named}
 use Rattle.conf_tree.specs.declared.answers.Put.{Put}

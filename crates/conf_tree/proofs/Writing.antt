@@ -1,8 +1,6 @@
 -- The tokens that are written for a tree, an item or a member at a time, and what they are read as.
-use Rattle.std.proofs.Common.{◌≡◌, ℕ, ℤ, pos, negsuc, zero, suc, ◌+◌, ◌<◌, ◌≤◌, List, [], ◌∷◌, ◌++◌, length, get_or, drop, map, Option, Some, Less, Greater, Ordering, IsUtf8, max, option_map, option_and_then, refl, sym, ap, ap₂, ◌∙◌, subst, arith, append_assoc, append-nil}
-use Rattle.std.proofs.lemmas.Cmp.{nat_list_cmp_total}
-use Rattle.std.specs.Cmp.Lexicographic.{slice_cmp}
-use Rattle.std.specs.Ordering.{nat_cmp, ordering_reverse}
+use Rattle.std.proofs.Common.{◌≡◌, ℕ, pos, negsuc, suc, ◌≤◌, List, [], ◌∷◌, ◌++◌, Option, Some, IsUtf8, max, option_map, option_and_then, refl, sym, ap, ap₂, ◌∙◌, arith, append_assoc, append-nil}
+use Rattle.std.specs.Ordering.{ordering_reverse}
 use Rattle.std.specs.Prelude.{⊤}
 use Rattle.json.specs.Json as json
 use Rattle.json.specs.Lex.{tokens}
@@ -14,6 +12,7 @@ use Rattle.serde_json.specs.Data.{Num, unsigned, negative, float, Data, null, bo
 use Rattle.serde_json.specs.Read.{number_of, of_json, of_items, of_members, max_depth, read}
 use Rattle.serde_json.specs.Written.{number_text, outline, items_outline, members_outline}
 use Rattle.serde_json.proofs.Numbers.{number_of-decimal, number_of-negative}
+use Rattle.conf_tree.proofs.Order.{turned}
 use Rattle.conf_tree.proofs.Reading.{document_read, no_float}
 use Rattle.conf_tree.specs.Document.{ComeAfter, IsDocument, AreDocuments, AreMembers}
 use Rattle.conf_tree.specs.Text.{document_of, IsWord, HasWords, ItemsHaveWords, MembersHaveWords, IsReadable}
@@ -39,9 +38,6 @@ joined_nothing (member k d ms) = ap (member k d) (joined_nothing ms)
 abbrev IsBefore : Members → Members → Type 0
 IsBefore no_members ms = ⊤
 IsBefore (member k d ds) ms = ComeAfter k ms × IsBefore ds ms
-
-turned : (k l : List ℕ) → slice_cmp nat_cmp k l ≡ ordering_reverse (slice_cmp nat_cmp l k)
-turned k l = nat_list_cmp_total.antisymm k l
 
 put_last : (k : List ℕ) (d : Data) (found ms : Members) → IsBefore found (member k d ms) → put k d found ≡ joined found (member k d no_members)
 put_last k d no_members ms h = refl

@@ -5,7 +5,6 @@ use Rattle.std.specs.Option.{MatchOption}
 use Rattle.std.specs.Result.{MatchResult}
 use Rattle.std.specs.declared.cmp.Ordering.TheVariants.{Less, Greater}
 use Rattle.std.specs.Cmp.Lexicographic.{slice_cmp}
-use Rattle.serde_json.specs.Data.{Data, Members, no_members, member}
 use Rattle.conf_tree.specs.View.{Named}
 use Rattle.conf_tree.specs.Paths.{digits_from, index_of}
 

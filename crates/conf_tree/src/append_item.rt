@@ -44,7 +44,12 @@ fn append_along(tree: &mut Tree, keys: &[Bytes], value: Tree) -> Result<Append, 
 }
 
 #[cycle(append_along)]
-fn append_in_list(items: &mut TreeList, key: &Bytes, rest: &[Bytes], value: Tree) -> Result<Append, AllocError>
+fn append_in_list(
+    items: &mut TreeList,
+    key: &Bytes,
+    rest: &[Bytes],
+    value: Tree,
+) -> Result<Append, AllocError>
     requires { AreDocuments (list_data items.old.items) }
     ensures ok { IfOk result (λ answer. Appends answer (append_by_path (key.now ∷ rest.now) (data_of value) (array (list_data items.old.items))) (array (list_data items.old.items)) (array (list_data items.new.items))) }
     ensures err { OnErr result (list_data items.new.items ≡ list_data items.old.items) }
@@ -56,7 +61,12 @@ fn append_in_list(items: &mut TreeList, key: &Bytes, rest: &[Bytes], value: Tree
 }
 
 #[cycle(append_along)]
-fn append_in_map(members: &mut TreeMap, key: &Bytes, rest: &[Bytes], value: Tree) -> Result<Append, AllocError>
+fn append_in_map(
+    members: &mut TreeMap,
+    key: &Bytes,
+    rest: &[Bytes],
+    value: Tree,
+) -> Result<Append, AllocError>
     requires { AreMembers (map_data members.old) }
     ensures ok { IfOk result (λ answer. Appends answer (append_by_path (key.now ∷ rest.now) (data_of value) (object (map_data members.old))) (object (map_data members.old)) (object (map_data members.new))) }
     ensures err { OnErr result (map_data members.new ≡ map_data members.old) }

@@ -10,11 +10,10 @@ mod path;
 mod put_value;
 mod read;
 mod remove_value;
-mod tree;
-mod write;
-
 #[cfg(test)]
 mod tests;
+mod tree;
+mod write;
 
 pub use answers::{Append, Put, Remove};
 pub use append_item::append;

@@ -48,7 +48,13 @@ fn put_along(alloc: Global, tree: &mut Tree, keys: &[Bytes], value: Tree) -> Res
 }
 
 #[cycle(put_along)]
-fn put_in_list(alloc: Global, items: &mut TreeList, key: &Bytes, rest: &[Bytes], value: Tree) -> Result<Put, AllocError>
+fn put_in_list(
+    alloc: Global,
+    items: &mut TreeList,
+    key: &Bytes,
+    rest: &[Bytes],
+    value: Tree,
+) -> Result<Put, AllocError>
     requires { AreDocuments (list_data items.old.items) }
     ensures ok { IfOk result (λ answer. Puts answer (put_by_path (key.now ∷ rest.now) (data_of value) (array (list_data items.old.items))) (array (list_data items.old.items)) (array (list_data items.new.items))) }
     ensures err { OnErr result (list_data items.new.items ≡ list_data items.old.items) }
@@ -60,7 +66,13 @@ fn put_in_list(alloc: Global, items: &mut TreeList, key: &Bytes, rest: &[Bytes],
 }
 
 #[cycle(put_along)]
-fn put_in_map(alloc: Global, members: &mut TreeMap, key: &Bytes, rest: &[Bytes], value: Tree) -> Result<Put, AllocError>
+fn put_in_map(
+    alloc: Global,
+    members: &mut TreeMap,
+    key: &Bytes,
+    rest: &[Bytes],
+    value: Tree,
+) -> Result<Put, AllocError>
     requires { AreMembers (map_data members.old) }
     ensures ok { IfOk result (λ answer. Puts answer (put_by_path (key.now ∷ rest.now) (data_of value) (object (map_data members.old))) (object (map_data members.old)) (object (map_data members.new))) }
     ensures err { OnErr result (map_data members.new ≡ map_data members.old) }
@@ -77,7 +89,13 @@ fn put_in_map(alloc: Global, members: &mut TreeMap, key: &Bytes, rest: &[Bytes],
 }
 
 /// Adds a member at its place.
-fn insert_member(alloc: Global, members: &mut TreeMap, index: usize, key: &Bytes, value: Tree) -> Result<Put, AllocError>
+fn insert_member(
+    alloc: Global,
+    members: &mut TreeMap,
+    index: usize,
+    key: &Bytes,
+    value: Tree,
+) -> Result<Put, AllocError>
     requires { IsGapAt key.now (map named (out-TreeMap members.old).members.items) index }
     ensures ok { IfOk result (λ answer. Puts answer (changed (object (put_member key.now (data_of value) (map_data members.old)))) (object (map_data members.old)) (object (map_data members.new))) }
     ensures err { OnErr result (map_data members.new ≡ map_data members.old) }

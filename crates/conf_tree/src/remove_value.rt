@@ -65,9 +65,7 @@ fn remove_in_map(members: &mut TreeMap, key: &Bytes, rest: &[Bytes]) -> Remove
         return Remove::Absent;
     };
     match rest.split_first() {
-        Some((next, further)) => {
-            remove_along(&mut members.members[index].value, next, further)
-        }
+        Some((next, further)) => { remove_along(&mut members.members[index].value, next, further) }
         None => {
             drop(members.members.remove(index));
             Remove::Done

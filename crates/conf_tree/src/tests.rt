@@ -73,7 +73,10 @@ fn rewrites_texts(rt: HostRuntime) -> Result<(), Fail> {
         ("{\"a\":1,\"a\":2}", "{\"a\":2}"),
         ("{\"a\":0.5,\"a\":2}", "{\"a\":2}"),
     ] {
-        assert!(rt; rewritten(rt.alloc(), text.as_bytes())?.as_slice() == want.as_bytes(), "at {text}");
+        assert!(rt;
+            rewritten(rt.alloc(), text.as_bytes())?.as_slice() == want.as_bytes(),
+            "at {text}"
+        );
     }
     Ok(())
 }
@@ -94,7 +97,10 @@ fn refuses_texts(rt: HostRuntime) -> Result<(), Fail> {
         "\"\\ud83d\"",
         "1 2",
     ] {
-        assert!(rt; read_tree(rt.alloc(), text.as_bytes())?.is_none(), "at {text}");
+        assert!(rt;
+            read_tree(rt.alloc(), text.as_bytes())?.is_none(),
+            "at {text}"
+        );
     }
     assert!(rt; read_tree(rt.alloc(), b"\"\xff\"")?.is_none(), "not UTF-8");
     Ok(())
@@ -110,7 +116,10 @@ fn reads_nesting_of_127(rt: HostRuntime) -> Result<(), Fail> {
         for _ in 0..depth {
             text.push(b']')?;
         }
-        assert!(rt; read_tree(rt.alloc(), text.as_slice())?.is_some() == (depth == 127), "at {depth}");
+        assert!(rt;
+            read_tree(rt.alloc(), text.as_slice())?.is_some() == (depth == 127),
+            "at {depth}"
+        );
     }
     Ok(())
 }
@@ -175,9 +184,16 @@ fn appends_by_path(rt: HostRuntime) -> Result<(), Fail> {
         ("c", None, Append::Absent),
     ] {
         let path = path(rt.alloc(), Some(first), second)?;
-        assert!(rt; append(&mut tree, &path, Tree::Number(-(1 << 100)))? == want, "at {first}");
+        assert!(rt;
+            append(&mut tree, &path, Tree::Number(-(1 << 100)))? == want,
+            "at {first}"
+        );
     }
-    shows(&rt, &tree, "{\"a\":[1,[-1267650600228229401496703205376],-1267650600228229401496703205376],\"b\":{}}")?;
+    shows(
+        &rt,
+        &tree,
+        "{\"a\":[1,[-1267650600228229401496703205376],-1267650600228229401496703205376],\"b\":{}}",
+    )?;
     Ok(())
 }
 
@@ -195,7 +211,11 @@ fn removes_by_path(rt: HostRuntime) -> Result<(), Fail> {
         assert!(rt; remove(&mut tree, &path) == want, "at {first}");
     }
     shows(&rt, &tree, "{\"a\":[2,3],\"b\":{\"d\":5}}")?;
-    shows(&rt, &tree.copy(rt.alloc())?, "{\"a\":[2,3],\"b\":{\"d\":5}}")?;
+    shows(
+        &rt,
+        &tree.copy(rt.alloc())?,
+        "{\"a\":[2,3],\"b\":{\"d\":5}}",
+    )?;
     let whole = path(rt.alloc(), None, None)?;
     assert!(rt; remove(&mut tree, &whole) == Remove::Done);
     shows(&rt, &tree, "{}")?;

@@ -1,5 +1,5 @@
-use Rattle.std.proofs.Common.{rules, ◌≡◌}
-use Rattle.conf_tree.proofs.Views.{data_of-Object, map_data-made}
+use Rattle.std.proofs.Common.{rules}
+use Rattle.conf_tree.proofs.Views.{data_of-Object}
 use Rattle.conf_tree.proofs.+copy.Goals as goal
 
 pub tree::Tree::copy-returns-in_ok-copy-in-Object : goal.tree::Tree::copy-returns-in_ok-copy-in-Object

@@ -1,14 +1,13 @@
-use Rattle.std.proofs.Common.{rules, ◌≡◌, ◌<◌, ◌≤◌, ◌∷◌, ℕ, List, length, map, set, Some, IfOk, OnErr, refl, sym, ap, ◌∙◌, arith, option_and_then}
+use Rattle.std.proofs.Common.{rules, ◌≡◌, ◌≤◌, ◌∷◌, ℕ, length, map, set, Some, IfOk, refl, ap, ◌∙◌, arith}
 use Rattle.std.proofs.lemmas.Result.{IfOk-weaker, on_err_weaker}
 use Rattle.serde_json.specs.Data.{array, object}
 use Rattle.conf_tree.specs.Answers.{Appends}
 use Rattle.conf_tree.specs.Paths.{index_of, append}
 use Rattle.conf_tree.specs.View.{data_of, list_data, map_data, members_of, named}
 use Rattle.conf_tree.specs.declared.answers.Append.{Append}
-use Rattle.conf_tree.specs.declared.tree.Tree.{Tree}
 use Rattle.conf_tree.specs.declared.tree.Tree.TheViews.{roll-Member}
 use Rattle.conf_tree.specs.declared.tree.Member.{Member}
-use Rattle.conf_tree.specs.declared.tree.TreeMap.{out-TreeMap, the_lemmas}
+use Rattle.conf_tree.specs.declared.tree.TreeMap.{out-TreeMap}
 use Rattle.conf_tree.proofs.Views.{data_of-Object, map_data-made}
 use Rattle.conf_tree.proofs.Children.{child_no_item, bounded}
 use Rattle.conf_tree.proofs.Members.{get_unnamed}

@@ -1,6 +1,5 @@
-use Rattle.std.proofs.Common.{◌≡◌, List, ℕ, IsUtf8, subst, sym}
+use Rattle.std.proofs.Common.{IsUtf8}
 use Rattle.std.proofs.lemmas.List.Elements.{recursion_from_All}
-use Rattle.std.specs.List.{AllByRecursion}
 use Rattle.conf_tree.specs.Paths.{append}
 use Rattle.conf_tree.specs.View.{data_of}
 use Rattle.conf_tree.proofs.Documents.{append_document, appends_document}

@@ -1,8 +1,7 @@
-use Rattle.std.proofs.Common.{rules, ◌≡◌, ◌∙◌, ap, sym, List}
+use Rattle.std.proofs.Common.{◌∙◌, ap, sym}
 use Rattle.serde_json.specs.Data.{Items, array}
 use Rattle.conf_tree.specs.Paths.{changed}
-use Rattle.conf_tree.specs.View.{data_of, list_data}
-use Rattle.conf_tree.specs.declared.tree.Tree.{Tree}
+use Rattle.conf_tree.specs.View.{list_data}
 use Rattle.conf_tree.proofs.Items.{push_item-list}
 use Rattle.conf_tree.proofs.append_item.push.Goals as goal
 

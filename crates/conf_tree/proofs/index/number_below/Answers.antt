@@ -1,5 +1,4 @@
-use Rattle.std.proofs.Common.{rules, ◌≡◌, ◌+◌, ◌-◌, ◌*◌, ◌<◌, ◌≤◌, ℕ, Option, Some, arith, drop, get_or, suc, sym, subst, ◌∙◌}
-use Rattle.conf_tree.specs.Paths.{digits_from}
+use Rattle.std.proofs.Common.{rules, ◌+◌, ◌-◌, ◌*◌, ◌≤◌, ℕ, Option, arith, drop, get_or, suc, sym, subst, ◌∙◌}
 use Rattle.conf_tree.specs.Places.{IsNumberBelow}
 use Rattle.conf_tree.proofs.Indices.{digits_grow, digit_more}
 use Rattle.conf_tree.proofs.index.number_below.Goals as goal

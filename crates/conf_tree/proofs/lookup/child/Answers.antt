@@ -1,5 +1,5 @@
-use Rattle.std.proofs.Common.{rules, ◌≡◌, ◌<◌, ◌≤◌, ℕ, sym, ap, ◌∙◌, Some, None, length, arith}
-use Rattle.conf_tree.specs.Paths.{child, index_of}
+use Rattle.std.proofs.Common.{rules, ◌≡◌, sym, ap, ◌∙◌, Some, length, arith}
+use Rattle.conf_tree.specs.Paths.{child}
 use Rattle.conf_tree.specs.View.{data_of}
 use Rattle.conf_tree.specs.declared.tree.Member.{Member}
 use Rattle.conf_tree.specs.declared.tree.TreeMap.{out-TreeMap}

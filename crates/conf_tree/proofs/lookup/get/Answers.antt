@@ -1,6 +1,5 @@
-use Rattle.std.proofs.Common.{rules, ◌≡◌, ◌∙◌, ap, sym, Some, option_map, option_and_then, drop, suc, List, [], ◌∷◌, arith, ℕ, ◌+◌, ◌<◌, length, add-one}
+use Rattle.std.proofs.Common.{rules, ◌≡◌, ◌∙◌, ap, sym, Some, option_and_then, drop, ◌∷◌, arith, ◌+◌}
 use Rattle.std.proofs.lemmas.List.{drop_more}
-use Rattle.serde_json.specs.Data.{Data}
 use Rattle.conf_tree.specs.Paths.{child, get}
 use Rattle.conf_tree.specs.View.{data_of}
 use Rattle.conf_tree.proofs.Documents.{child_document}

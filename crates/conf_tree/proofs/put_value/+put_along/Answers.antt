@@ -1,14 +1,13 @@
-use Rattle.std.proofs.Common.{rules, ◌≡◌, ◌<◌, ◌≤◌, ◌∷◌, ℕ, List, length, map, set, Some, IfOk, OnErr, refl, sym, ap, ◌∙◌, arith, option_and_then}
+use Rattle.std.proofs.Common.{rules, ◌≡◌, ◌≤◌, ◌∷◌, ℕ, length, map, set, Some, IfOk, refl, ap, ◌∙◌, arith}
 use Rattle.std.proofs.lemmas.Result.{IfOk-weaker, on_err_weaker}
 use Rattle.serde_json.specs.Data.{array, object}
 use Rattle.conf_tree.specs.Answers.{Puts}
 use Rattle.conf_tree.specs.Paths.{index_of, put, set_item, array_or_absent}
 use Rattle.conf_tree.specs.View.{data_of, list_data, map_data, members_of, named}
 use Rattle.conf_tree.specs.declared.answers.Put.{Put}
-use Rattle.conf_tree.specs.declared.tree.Tree.{Tree}
 use Rattle.conf_tree.specs.declared.tree.Tree.TheViews.{roll-Member}
 use Rattle.conf_tree.specs.declared.tree.Member.{Member}
-use Rattle.conf_tree.specs.declared.tree.TreeMap.{out-TreeMap, the_lemmas}
+use Rattle.conf_tree.specs.declared.tree.TreeMap.{out-TreeMap}
 use Rattle.conf_tree.proofs.Views.{data_of-Object, map_data-made}
 use Rattle.conf_tree.proofs.Children.{child_no_item, no_item_at, bounded}
 use Rattle.conf_tree.proofs.Items.{set_item_past}
@@ -47,9 +46,11 @@ put_in_list-returns-in-None-clause-ok t c =
     let k = c.args.key.now in
     let v = data_of c.args.value in
     let count : c.len.result ≡ length ts = search rules in
-    let past : (i : ℕ) → index_of k ≡ Some i → length ts ≤ i = λ i e. omega (arith, c.in-None.ensures i (ap index_of c.as_slice.ensures ∙ e)) in
-    (put_nowhere k c.args.rest.now v (array (list_data ts)) (child_no_item k ts past)
-      (ap array_or_absent (no_item_at (λ i. set_item i v (list_data ts)) (length ts) k past (λ i h. set_item_past ts i v h))), refl)
+    let past : (i : ℕ) → index_of k ≡ Some i → length ts ≤ i = λ i e. omega (arith, c.in-None.ensures i (ap index_of c.as_slice.ensures ∙ e)) in (
+      put_nowhere k c.args.rest.now v (array (list_data ts)) (child_no_item k ts past)
+          (ap array_or_absent (no_item_at (λ i. set_item i v (list_data ts)) (length ts) k past (λ i h. set_item_past ts i v h))),
+      refl,
+    )
 
 pub put_in_map-put_along-requires : goal.put_in_map-put_along-requires
 put_in_map-put_along-requires t c =

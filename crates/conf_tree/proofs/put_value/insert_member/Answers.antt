@@ -1,4 +1,4 @@
-use Rattle.std.proofs.Common.{rules, ◌≡◌, ◌∙◌, ap, sym, map, List, ℕ}
+use Rattle.std.proofs.Common.{◌≡◌, ◌∙◌, ap, sym, map, List, ℕ}
 use Rattle.std.specs.List.{insert}
 use Rattle.serde_json.specs.Data.{Members, object}
 use Rattle.conf_tree.specs.Paths.{changed}

@@ -1,15 +1,14 @@
-use Rattle.std.proofs.Common.{rules, ◌≡◌, ℕ, List, [], ◌∷◌, ◌++◌, Some, String, Vec, map, string_bytes, refl, sym, ap, ap₂, ◌∙◌, subst, append-nil}
+use Rattle.std.proofs.Common.{rules, ◌≡◌, ℕ, List, [], ◌∷◌, ◌++◌, map, string_bytes, sym, ap, ap₂, ◌∙◌, subst, append-nil}
 use Rattle.std.proofs.lemmas.Str.{IsUtf8-string_bytes}
 use Rattle.std.specs.Vec.Iter.{into_iter_items}
 use Rattle.serde_json.specs.Data.{Data, string, object}
 use Rattle.serde_json.specs.View.{items_of, items_view, view, members_view}
-use Rattle.serde_json.specs.Written.{has_float, items_have_float, members_have_float}
+use Rattle.serde_json.specs.Written.{items_have_float, members_have_float}
 use Rattle.serde_json.specs.declared.value.Value.{Value, the_lemmas}
 use Rattle.serde_json.proofs.Views.{view-Object}
-use Rattle.conf_tree.specs.Document.{IsDocument, AreMembers}
-use Rattle.conf_tree.specs.Text.{IsTreeOf, IsMapOf, HasWords, MembersHaveWords}
-use Rattle.conf_tree.specs.View.{Named, data_of, members_of, named}
-use Rattle.conf_tree.specs.declared.tree.Tree.{Tree}
+use Rattle.conf_tree.specs.Document.{IsDocument}
+use Rattle.conf_tree.specs.Text.{HasWords, MembersHaveWords}
+use Rattle.conf_tree.specs.View.{data_of, members_of, named}
 use Rattle.conf_tree.specs.declared.tree.Tree.TheViews.{roll-Member}
 use Rattle.conf_tree.specs.declared.tree.Member.{Member}
 use Rattle.conf_tree.proofs.Reading.{Entry, HasDocuments, named_value, members_view-named, list_more, documents_more, words_more, members_more, member_documents_more, member_words_more, items_float_at, members_float_at, are_members}

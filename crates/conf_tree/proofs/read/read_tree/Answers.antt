@@ -1,8 +1,8 @@
-use Rattle.std.proofs.Common.{rules, ◌≡◌, IfOk, Option, option_map, refl, sym, ap, ◌∙◌, subst}
+use Rattle.std.proofs.Common.{◌≡◌, Option, option_map, sym, ◌∙◌}
 use Rattle.std.proofs.lemmas.Result.{IfOk-weaker}
 use Rattle.serde_json.specs.View.{view}
 use Rattle.serde_json.specs.Errors.{IsMemory}
-use Rattle.conf_tree.specs.Text.{IsTreeOf, unless_float, document_of}
+use Rattle.conf_tree.specs.Text.{IsTreeOf, document_of}
 use Rattle.conf_tree.specs.View.{data_of}
 use Rattle.conf_tree.specs.declared.tree.Tree.{Tree}
 use Rattle.conf_tree.proofs.Reading.{tree_unless_float, document_read, document_refused}

@@ -1,8 +1,7 @@
-use Rattle.std.proofs.Common.{rules, ◌≡◌, ◌<◌, ◌≤◌, ◌∷◌, ℕ, List, length, map, set, Some, refl, sym, ap, ◌∙◌, subst, arith, option_and_then}
-use Rattle.std.specs.List.{remove as without}
+use Rattle.std.proofs.Common.{rules, ◌≡◌, ◌≤◌, ℕ, List, length, map, set, Some, refl, sym, ap, ◌∙◌, subst, arith, option_and_then}
 use Rattle.serde_json.specs.Data.{Members, array, object}
 use Rattle.conf_tree.specs.Answers.{Removes}
-use Rattle.conf_tree.specs.Paths.{index_of, remove, remove_item, remove_child, array_or_absent, object_or_absent, changed}
+use Rattle.conf_tree.specs.Paths.{index_of, remove, remove_item, array_or_absent, object_or_absent, changed}
 use Rattle.conf_tree.specs.View.{data_of, list_data, map_data, members_of, named}
 use Rattle.conf_tree.specs.declared.tree.Tree.{Tree}
 use Rattle.conf_tree.specs.declared.tree.Tree.TheViews.{roll-Member}
@@ -25,9 +24,11 @@ remove_in_list-returns-in_default t c =
     let ts = c.args.items.now.items in
     let k = c.args.key.now in
     let count : c.len.result ≡ length ts = search rules in
-    let past : (i : ℕ) → index_of k ≡ Some i → length ts ≤ i = λ i e. omega (arith, c.in_default.ensures i (ap index_of c.as_slice.ensures ∙ e)) in
-    (remove_nowhere k c.args.rest.now (array (list_data ts)) (child_no_item k ts past)
-      (ap array_or_absent (no_item_at (λ i. remove_item i (list_data ts)) (length ts) k past (λ i h. remove_item_past ts i h))), refl)
+    let past : (i : ℕ) → index_of k ≡ Some i → length ts ≤ i = λ i e. omega (arith, c.in_default.ensures i (ap index_of c.as_slice.ensures ∙ e)) in (
+      remove_nowhere k c.args.rest.now (array (list_data ts)) (child_no_item k ts past)
+          (ap array_or_absent (no_item_at (λ i. remove_item i (list_data ts)) (length ts) k past (λ i h. remove_item_past ts i h))),
+      refl,
+    )
 
 pub remove_in_list-remove_along-requires : goal.remove_in_list-remove_along-requires
 remove_in_list-remove_along-requires t c =

@@ -1,4 +1,4 @@
-use Rattle.std.proofs.Common.{rules, ◌≡◌, ◌∷◌, ◌∙◌, List, ℕ, IsUtf8, subst, sym, ap}
+use Rattle.std.proofs.Common.{◌∷◌, ◌∙◌, List, ℕ, IsUtf8, subst, sym, ap}
 use Rattle.std.proofs.lemmas.List.Elements.{recursion_from_All, All-same}
 use Rattle.serde_json.specs.Data.{object}
 use Rattle.conf_tree.specs.Document.{IsDocument}

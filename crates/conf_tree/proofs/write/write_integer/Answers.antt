@@ -1,4 +1,4 @@
-use Rattle.std.proofs.Common.{rules, ◌≡◌, List, ℕ, subst, sym}
+use Rattle.std.proofs.Common.{rules, ◌≡◌, subst, sym}
 use Rattle.std.specs.Fmt.{signed_decimal}
 use Rattle.json.specs.Print.{IsNumber}
 use Rattle.conf_tree.proofs.Decimals.{is_number_signed}

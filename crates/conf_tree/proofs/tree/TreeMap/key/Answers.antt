@@ -1,4 +1,4 @@
-use Rattle.std.proofs.Common.{◌≡◌, List, Some, length, map, sym, ap, ◌∙◌, arith}
+use Rattle.std.proofs.Common.{List, Some, map, sym, ap, ◌∙◌}
 use Rattle.conf_tree.specs.View.{members_of, named, name_at}
 use Rattle.conf_tree.specs.declared.tree.Member.{Member}
 use Rattle.conf_tree.proofs.Listed.{name_at_within, name_at_past}

@@ -1,4 +1,4 @@
-use Rattle.std.proofs.Common.{rules, ◌≡◌, sym, ◌∙◌, length, arith}
+use Rattle.std.proofs.Common.{rules, ◌≡◌, length}
 use Rattle.serde_json.specs.Events.{members_len}
 use Rattle.conf_tree.specs.View.{map_data}
 use Rattle.conf_tree.specs.declared.tree.TreeMap.{out-TreeMap}

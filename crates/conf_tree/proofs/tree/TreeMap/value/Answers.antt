@@ -1,4 +1,4 @@
-use Rattle.std.proofs.Common.{◌≡◌, List, Some, length, map, sym, ap, ◌∙◌, arith}
+use Rattle.std.proofs.Common.{List, Some, map, sym, ap, ◌∙◌}
 use Rattle.conf_tree.specs.View.{data_of, members_of, named, value_at}
 use Rattle.conf_tree.specs.declared.tree.Member.{Member}
 use Rattle.conf_tree.proofs.Listed.{value_at_within, value_at_past}
