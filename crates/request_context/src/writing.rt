@@ -126,6 +126,22 @@ fn size_of_request(request: &Request) -> usize
         .saturating_add(request.body.as_slice().len())
 }
 
+fn size_of_record(asked: &Asked) -> usize
+    ensures { result ≡ min (length (request_record asked.now)) (2 ^ 64 - 1) }
+{
+    size_of_request(&asked.request)
+        .saturating_add(12)
+        .saturating_add(asked.name.as_slice().len())
+}
+
+fn size_of_reply(reply: &Reply) -> usize
+    ensures { result ≡ min (length (reply_record reply.now)) (2 ^ 64 - 1) }
+{
+    size_of_fields(reply.fields.as_slice())
+        .saturating_add(6)
+        .saturating_add(reply.body.as_slice().len())
+}
+
 /// The record of a request.
 ///
 /// The minor version is 0 or 1, and each length and the number of fields are below 2^32. Fails for want of memory
@@ -136,10 +152,7 @@ pub fn write_record(alloc: Global, asked: &Asked) -> Result<Bytes, AllocError>
     ensures { IfOk result (λ bytes. bytes ≡ request_record asked.now) }
 {
     let request = &asked.request;
-    let size = size_of_request(request)
-        .saturating_add(12)
-        .saturating_add(asked.name.as_slice().len());
-    let mut out = Vec::with_capacity(alloc, size)?;
+    let mut out = Vec::with_capacity(alloc, size_of_record(asked))?;
     put_u64(&mut out, asked.stream)?;
     put_text(&mut out, asked.name.as_slice())?;
     put_head(&mut out, request)?;
@@ -158,10 +171,7 @@ pub fn write_reply(alloc: Global, reply: &Reply) -> Result<Bytes, AllocError>
     requires { IsRecordableReply reply.now }
     ensures { IfOk result (λ bytes. bytes ≡ reply_record reply.now) }
 {
-    let size = size_of_fields(reply.fields.as_slice())
-        .saturating_add(6)
-        .saturating_add(reply.body.as_slice().len());
-    let mut out = Vec::with_capacity(alloc, size)?;
+    let mut out = Vec::with_capacity(alloc, size_of_reply(reply))?;
     put_u16(&mut out, reply.status)?;
     put_fields(&mut out, reply.fields.as_slice())?;
     put_text(&mut out, reply.body.as_slice())?;

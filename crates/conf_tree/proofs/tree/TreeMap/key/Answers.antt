@@ -1,0 +1,17 @@
+use Rattle.std.proofs.Common.{List, Some, map, sym, ap, ◌∙◌}
+use Rattle.conf_tree.specs.View.{members_of, named, name_at}
+use Rattle.conf_tree.specs.declared.tree.Member.{Member}
+use Rattle.conf_tree.proofs.Listed.{name_at_within, name_at_past}
+use Rattle.conf_tree.proofs.tree.TreeMap.key.Goals as goal
+
+pub returns-in-Some : goal.returns-in-Some
+returns-in-Some c =
+    let h = c.in-Some.ensures.lookup in
+    ap Some (ap (λ (m : Member). m.key) h.1)
+    ∙ sym (name_at_within c.deref.result.now c.args.index c.in-Some.member.now h.3.0)
+    ∙ ap (λ (ms : List Member). name_at c.args.index (members_of (map named ms))) c.deref.ensures.value
+
+pub returns-in-None : goal.returns-in-None
+returns-in-None c =
+    sym (name_at_past c.deref.result.now c.args.index c.in-None.ensures.lookup.3)
+    ∙ ap (λ (ms : List Member). name_at c.args.index (members_of (map named ms))) c.deref.ensures.value

@@ -1,0 +1,26 @@
+//! JSON documents as trees: read, written, looked up and changed by path.
+#![tactic(auto)]
+
+mod answers;
+mod append_item;
+mod copy;
+mod index;
+mod lookup;
+mod path;
+mod put_value;
+mod read;
+mod remove_value;
+#[cfg(test)]
+mod tests;
+mod tree;
+mod write;
+
+pub use answers::{Append, Put, Remove};
+pub use append_item::append;
+pub use lookup::get;
+pub use path::Path;
+pub use put_value::put;
+pub use read::read_tree;
+pub use remove_value::remove;
+pub use tree::{Tree, TreeList, TreeMap};
+pub use write::write_tree;

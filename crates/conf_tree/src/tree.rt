@@ -1,0 +1,102 @@
+//! Trees.
+ghost use Rattle.std.specs.Cmp.Lexicographic.{slice_cmp};
+ghost use Rattle.std.specs.Ordering.{nat_cmp};
+ghost use Rattle.std.specs.Prelude.{◌≡◌, length, option_map, map};
+
+use std::alloc::Global;
+use std::cmp::Ordering;
+use unit_types::Bytes;
+
+/// A JSON value (RFC 8259, section 3) whose numbers are integers.
+///
+/// Contracts see the value that a tree stands for as `data_of tree`.
+#[cycle(tree)]
+#[derive(Drop)]
+pub enum Tree {
+    /// `null`.
+    Null,
+    /// `true` or `false`.
+    Truth(bool),
+    /// An integer.
+    Number(i128),
+    /// A string.
+    Text(Bytes),
+    /// An array.
+    List(TreeList),
+    /// An object.
+    Object(TreeMap),
+}
+
+/// The items of an array, shown by `as_slice`.
+pub type TreeList = Vec<Tree>;
+
+#[cycle(tree)]
+#[derive(Drop)]
+pub(crate) struct Member {
+    pub(crate) key: Bytes,
+    pub(crate) value: Tree,
+}
+
+/// The members of an object, in ascending byte order of their names.
+#[cycle(tree)]
+#[derive(Drop)]
+pub struct TreeMap {
+    pub(crate) members: Vec<Member>,
+}
+
+impl TreeMap {
+    ghost use Rattle.conf_tree.specs.Document.{AreMembers};
+    ghost use Rattle.conf_tree.specs.Places.{IsPlaceOf};
+    ghost use Rattle.conf_tree.specs.View.{data_of, map_data, name_at, named, value_at};
+    ghost use Rattle.conf_tree.specs.declared.tree.TreeMap.{out-TreeMap};
+    ghost use Rattle.serde_json.specs.Data.{no_members};
+    ghost use Rattle.serde_json.specs.Events.{members_len};
+
+    /// No members.
+    pub fn new(alloc: Global) -> TreeMap
+        ensures { map_data result ≡ no_members }
+    {
+        TreeMap {
+            members: Vec::new(alloc),
+        }
+    }
+
+    /// How many members there are.
+    pub fn len(&self) -> usize
+        ensures { result ≡ members_len (map_data self.now) }
+    {
+        self.members.len()
+    }
+
+    /// The name of the member at this place; None exactly where `index` isn't below `len`.
+    pub fn key(&self, index: usize) -> Option<&Bytes>
+        ensures { option_map (λ k. k.now) result ≡ name_at index (map_data self.now) }
+    {
+        match self.members.get(index) {
+            Some(member) => Some(&member.key),
+            None => None,
+        }
+    }
+
+    /// The value of the member at this place; None exactly where `index` isn't below `len`.
+    pub fn value(&self, index: usize) -> Option<&Tree>
+        ensures { option_map (λ t. data_of t.now) result ≡ value_at index (map_data self.now) }
+    {
+        match self.members.get(index) {
+            Some(member) => Some(&member.value),
+            None => None,
+        }
+    }
+
+    /// The place of the member of this name, or the place where it belongs.
+    pub(crate) fn find(&self, key: &[u8]) -> Result<usize, usize>
+        requires { AreMembers (map_data self.now) }
+        ensures { IsPlaceOf key.now (map named (out-TreeMap self.now).members.items) result }
+    {
+        self.members.binary_search_by(
+            |member: &Member| -> Ordering
+                ensures { result ≡ slice_cmp nat_cmp member.now.key key.entry.now }
+            { member.key.as_slice().cmp(&key) },
+        )
+    }
+}
