@@ -1,6 +1,6 @@
 //! Paths, patterns and expansions at twice the size: the time may grow by 2.3 at most.
 
-use crate::timing::{nanos_since, print_ratio};
+use crate::timing::{nanos_since, report};
 use path_normal::{expand, normal_path};
 use pattern_text::TextPattern;
 use std::alloc::{AllocError, Global};
@@ -18,7 +18,7 @@ pub fn normal_paths<R: Runtime>(rt: &R, alloc: Global) -> io::Result<()> {
     let text = repeated(alloc, b"/ab/c/../%64e/.", 2 * SIZE)?;
     let single = best_path(rt, alloc, &text[..text.len() / 2])?;
     let double = best_path(rt, alloc, &text)?;
-    print_ratio(rt, "normal_path", single, double, 230)
+    report(rt, "normal_path", double, single, 230)
 }
 
 /// `matches` of `*a*a*a*b` on bytes `a`.
@@ -27,7 +27,7 @@ pub fn patterns<R: Runtime>(rt: &R, alloc: Global) -> io::Result<()> {
     let text = repeated(alloc, b"a", 2 * SIZE)?;
     let single = best_match(rt, &pattern, &text[..text.len() / 2])?;
     let double = best_match(rt, &pattern, &text)?;
-    print_ratio(rt, "matches", single, double, 230)
+    report(rt, "matches", double, single, 230)
 }
 
 /// `expand` of a text of many variables.
@@ -36,7 +36,7 @@ pub fn expansions<R: Runtime>(rt: &R, alloc: Global) -> io::Result<()> {
     let text = repeated(alloc, b"$host and ${uri}", 2 * SIZE)?;
     let single = best_expansion(rt, alloc, &text[..text.len() / 2], &request)?;
     let double = best_expansion(rt, alloc, &text, &request)?;
-    print_ratio(rt, "expand", single, double, 230)
+    report(rt, "expand", double, single, 230)
 }
 
 /// The part again and again, up to about a size.

@@ -1,16 +1,26 @@
-//! What is timed: one word a measurement. Without words it prints its words.
+//! What is timed: one word a measurement, told as a ratio against something in the same run. Without words it prints
+//! its words.
 #![tactic(auto)]
 
+mod grammars;
 mod input;
+mod records;
+mod timing;
+mod trees;
 
-use std::env;
-use std::io;
+use std::{env, io};
 
-const WORDS: &str = "read-input";
+const WORDS: &str = "read-input normal-path matches expand write-record read-record trees";
 
 fn run(rt: &HostRuntime, word: &str) -> io::Result<()> {
     match word {
         "read-input" => input::measure(rt),
+        "normal-path" => grammars::normal_paths(rt, rt.alloc()),
+        "matches" => grammars::patterns(rt, rt.alloc()),
+        "expand" => grammars::expansions(rt, rt.alloc()),
+        "write-record" => records::write_record_ratio(rt),
+        "read-record" => records::read_record_ratio(rt),
+        "trees" => trees::measure(rt),
         _ => println!(rt; "unit_bench: no such word: {word}"),
     }
 }

@@ -1,23 +1,17 @@
-//! Times in nanoseconds, and how they are told.
+//! Times in nanoseconds, and how their ratios are told.
 
 use std::io;
-use std::rt::Runtime;
+use std::rt::Clock;
 use std::time::Instant;
 
 /// The time since `start`, in nanoseconds.
-pub fn nanos_since<R: Runtime>(rt: &R, start: &Instant) -> io::Result<u64> {
-    let time = start.elapsed(rt)?;
-    Ok(u64::try_from(time.as_nanos()).unwrap_or(u64::MAX))
+pub fn nanos_since(rt: &impl Clock, start: &Instant) -> io::Result<u64> {
+    let nanos = start.elapsed(rt)?.as_nanos();
+    Ok(u64::try_from(nanos).unwrap_or(u64::MAX))
 }
 
-/// Prints how many times `measured` is of `base`, in hundredths, and the most that it may be.
-pub fn print_ratio<R: Runtime>(
-    rt: &R,
-    name: &str,
-    base: u64,
-    measured: u64,
-    most: u64,
-) -> io::Result<()> {
-    let hundredths = measured.saturating_mul(100) / base.max(1);
-    println!(rt; "{name}: {hundredths} hundredths of its base (at most {most}), {measured} ns to {base} ns")
+/// Prints a line with the ratio of two times in hundredths, the most that it may be, and both times in nanoseconds.
+pub fn report(rt: &impl Print, name: &str, measured: u64, base: u64, most: u64) -> io::Result<()> {
+    let ratio = measured.saturating_mul(100) / base.max(1);
+    println!(rt; "{name} ratio {ratio} hundredths, at most {most}: {measured} ns to {base} ns")
 }

@@ -9,9 +9,8 @@ mod tests;
 use handlers::ProgramHandlers;
 use standard::{StdSink, StdSource};
 use std::alloc::{AllocError, Global};
-use std::env;
-use std::io;
 use std::process::ExitCode;
+use std::{env, io};
 use unit_io::Sink;
 use unit_top::unit_top;
 

@@ -7,6 +7,7 @@ use unit_top::unit_top;
 use unit_types::Bytes;
 
 const GET: &[u8] = b"GET / HTTP/1.1\r\nHost: a\r\n\r\n";
+
 const GREETED: &[u8] =
     b"HTTP/1.1 200 OK\r\nContent-Type: text/plain\r\nContent-Length: 14\r\n\r\nHello, world!\n";
 
@@ -37,7 +38,12 @@ impl Outcome {
     }
 }
 
-fn run(rt: &HostRuntime, words: &[&str], input: &[u8], faults: Faults<'_>) -> Result<Outcome, AllocError> {
+fn run(
+    rt: &HostRuntime,
+    words: &[&str],
+    input: &[u8],
+    faults: Faults<'_>,
+) -> Result<Outcome, AllocError> {
     let alloc = rt.alloc();
     let mut owned = Vec::new(alloc);
     for word in words {
@@ -51,7 +57,14 @@ fn run(rt: &HostRuntime, words: &[&str], input: &[u8], faults: Faults<'_>) -> Re
     );
     let mut out = MemSink::open(alloc, Vec::from_slice(alloc, faults.writes)?);
     let mut err = MemSink::open(alloc, Vec::from_slice(alloc, faults.errors)?);
-    let status = unit_top(alloc, owned.as_slice(), &mut src, &mut out, &mut err, &handlers);
+    let status = unit_top(
+        alloc,
+        owned.as_slice(),
+        &mut src,
+        &mut out,
+        &mut err,
+        &handlers,
+    );
     Ok(Outcome {
         status,
         out: Bytes::copy_of(alloc, out.written())?,
@@ -80,7 +93,8 @@ fn no_whole_request(rt: HostRuntime) {
 #[test]
 fn no_host(rt: HostRuntime) {
     let input = b"GET / HTTP/1.1\r\n\r\nGET / HTTP/1.1\r\nHost: a\r\n\r\n";
-    let wanted = b"HTTP/1.1 400 Bad Request\r\nContent-Type: text/plain\r\nContent-Length: 12\r\nConnection: close\r\n\r\nError 400.\r\n";
+    let wanted =
+        b"HTTP/1.1 400 Bad Request\r\nContent-Type: text/plain\r\nContent-Length: 12\r\nConnection: close\r\n\r\nError 400.\r\n";
     let outcome = once(&rt, input).expect(&rt, "memory");
     assert!(rt; outcome.is(0, wanted, b""));
 }
@@ -88,7 +102,8 @@ fn no_host(rt: HostRuntime) {
 #[test]
 fn post_is_not_served(rt: HostRuntime) {
     let input = b"POST / HTTP/1.1\r\nHost: a\r\nContent-Length: 0\r\n\r\n";
-    let wanted = b"HTTP/1.1 501 Not Implemented\r\nContent-Type: text/plain\r\nContent-Length: 12\r\nConnection: close\r\n\r\nError 501.\r\n";
+    let wanted =
+        b"HTTP/1.1 501 Not Implemented\r\nContent-Type: text/plain\r\nContent-Length: 12\r\nConnection: close\r\n\r\nError 501.\r\n";
     let outcome = once(&rt, input).expect(&rt, "memory");
     assert!(rt; outcome.is(0, wanted, b""));
 }

@@ -1,0 +1,5 @@
+pub mod CutLemmas
+pub mod PathLemmas
+pub mod QueryLemmas
+pub mod PieceLemmas
+pub mod LawLemmas

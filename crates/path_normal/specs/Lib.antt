@@ -1,0 +1,10 @@
+pub mod Address
+pub mod Cut
+pub mod ExpansionLeft
+pub mod Pairs
+pub mod PairsLeft
+pub mod Path
+pub mod PiecesLeft
+pub mod Text
+pub mod Value
+pub mod Variables

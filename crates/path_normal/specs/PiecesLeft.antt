@@ -1,0 +1,24 @@
+-- What the iterator over the pieces of a text has left to give.
+use Rattle.std.specs.Prelude.{ℕ, List, [], ◌∷◌, ◌≡◌, true, false, nat_eq, take, drop, Option, MatchOption}
+use Rattle.std.specs.Borrow.{Bor}
+use Rattle.std.specs.List.{starts_with}
+use Rattle.path_normal.specs.declared.pieces.Piece.{Piece}
+use Rattle.path_normal.specs.declared.pieces.Piece.TheVariants.{Byte, Variable, Stray}
+use Rattle.path_normal.specs.declared.pieces.Pieces.{Pieces}
+use Rattle.path_normal.specs.Variables.{PieceText, byte, variable, stray, pieces_of, run_len}
+
+-- what a piece says
+abbrev pub piece_text : Piece → PieceText
+piece_text (Byte b) = byte b
+piece_text (Variable name) = variable name.now
+piece_text Stray = stray
+
+-- the pieces that are left to give
+abbrev pub pieces_left : Pieces → List PieceText
+pieces_left s = pieces_of s.rest.now
+
+-- the run at the front is a name, where `}` is behind it
+abbrev pub IsNameInBraces : List ℕ → Option (Bor (List ℕ)) → Type 0
+IsNameInBraces inside r =
+    MatchOption r (starts_with nat_eq (drop (run_len inside) inside) (125 ∷ []) ≡ false)
+    (λ name. (starts_with nat_eq (drop (run_len inside) inside) (125 ∷ []) ≡ true) × (name.now ≡ take (run_len inside) inside))
