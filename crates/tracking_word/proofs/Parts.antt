@@ -1,13 +1,13 @@
 -- What the kinds of step do to the parts of a rule of tags. Views are of any type: what of the stepping seat's view has
 -- changed is a premise.
-use Rattle.std.proofs.Common.{ℕ, ◌≡◌, ◌≢◌, ◌+◌, ◌<◌, ◌≤◌, ◌==◌, ◌⊎◌, inl, inr, ⊎_elim, List, [], ◌∷◌, ◌++◌, set, refl, sym, ap, ◌∙◌, subst, arith}
+use Rattle.std.proofs.Common.{ℕ, ◌≡◌, ◌≢◌, ◌+◌, ◌<◌, ◌==◌, ◌⊎◌, inl, inr, ⊎_elim, List, [], ◌∷◌, ◌++◌, set, sym, ap, ◌∙◌, subst, arith}
 use Rattle.std.proofs.lemmas.Bool.{cases_eq}
 use Rattle.atomic_table.proofs.Lists.{at_set, at_snoc}
 use mathlib.Core.Option.{some}
 use lib.ListN.{get_elem?}
-use Rattle.unit_model.specs.Weights.{weigh, below, is_number, one_if}
+use Rattle.unit_model.specs.Weights.{weigh, is_number, one_if}
 use Rattle.unit_model.proofs.Weights.{below_is}
-use Rattle.tracking_word.specs.Words.{Sets, Stays, standing, is_pair}
+use Rattle.tracking_word.specs.Words.{Sets, Stays, is_pair}
 use Rattle.tracking_word.specs.Parts.{Counted, Owned, Known, Holds}
 use Rattle.tracking_word.proofs.Words.{standing_stays, standing_armed, standing_settled, standing_pair}
 use Rattle.tracking_word.proofs.Views.{sum_set, sum_two, sum_split, sum_join}
@@ -80,9 +80,9 @@ known_step : {V : Type 0} (held : (ℕ → ℕ) → V → ℕ) (says : V → ℕ
     → Known held says n tag' (set views k u)
 known_step {V} held says n tag' views k u own others j w there =
     ⊎_elim
-      (λ t. subst (λ (y : V). (i : ℕ) → i < n → Holds held i y → (x : ℕ) → says y i x → (tag' i ≡ x) ⊎ (tag' i ≡ 0)) t.1 own)
-      (λ t. others j w t.0 t.1)
-      (at_set views k j u w there)
+    (λ t. subst (λ (y : V). (i : ℕ) → i < n → Holds held i y → (x : ℕ) → says y i x → (tag' i ≡ x) ⊎ (tag' i ≡ 0)) t.1 own)
+    (λ t. others j w t.0 t.1)
+    (at_set views k j u w there)
 
 pub known_stays : {V : Type 0} (held : (ℕ → ℕ) → V → ℕ) (says : V → ℕ → ℕ → Type 0) (n : ℕ) (tag tag' : ℕ → ℕ) (views : List V) (k : ℕ) (v u : V) → get_elem? views k ≡ some v
     → Stays n tag tag' → ((f : ℕ → ℕ) → held f u ≡ held f v) → ((i x : ℕ) → says u i x → (tag i ≡ x) ⊎ says v i x)
@@ -90,8 +90,8 @@ pub known_stays : {V : Type 0} (held : (ℕ → ℕ) → V → ℕ) (says : V �
 known_stays {V} held says n tag tag' views k v u at stays same told old =
     let still : (i x : ℕ) → i < n → (tag i ≡ x) ⊎ (tag i ≡ 0) → (tag' i ≡ x) ⊎ (tag' i ≡ 0) = λ i x lt. ⊎_elim (λ a. inl (stays i lt ∙ a)) (λ b. inr (stays i lt ∙ b)) in
     known_step held says n tag' views k u
-      (λ i lt holds x says_x. still i x lt (⊎_elim (λ a. inl a) (λ before. old k v at i lt (subst (λ (m : ℕ). 0 < m) (same (is_number i)) holds) x before) (told i x says_x)))
-      (λ j w ne there i lt holds x says_x. still i x lt (old j w there i lt holds x says_x))
+    (λ i lt holds x says_x. still i x lt (⊎_elim (λ a. inl a) (λ before. old k v at i lt (subst (λ (m : ℕ). 0 < m) (same (is_number i)) holds) x before) (told i x says_x)))
+    (λ j w ne there i lt holds x says_x. still i x lt (old j w there i lt holds x says_x))
 
 pub known_arm : {V : Type 0} (held : (ℕ → ℕ) → V → ℕ) (elsewhere : (ℕ → ℕ) → ℕ) (says : V → ℕ → ℕ → Type 0) (n : ℕ) (tag tag' : ℕ → ℕ) (views : List V) (k : ℕ) (v u : V) → get_elem? views k ≡ some v
     → (item x : ℕ) → item < n → Sets n tag tag' item x → Holds held item v → ((f : ℕ → ℕ) → held f u ≡ held f v)
@@ -100,14 +100,14 @@ pub known_arm : {V : Type 0} (held : (ℕ → ℕ) → V → ℕ) (elsewhere : (
 known_arm {V} held elsewhere says n tag tag' views k v u at item x lt sets mine same told owned old =
     let still : (i y : ℕ) → i < n → i ≢ item → (tag i ≡ y) ⊎ (tag i ≡ 0) → (tag' i ≡ y) ⊎ (tag' i ≡ 0) = λ i y below_n ne. ⊎_elim (λ a. inl (sets.others i below_n ne ∙ a)) (λ b. inr (sets.others i below_n ne ∙ b)) in
     known_step held says n tag' views k u
-      (λ i below_n holds y says_y. ⊎_elim
-        (λ t. inl (ap tag' t.0 ∙ sets.here ∙ sym t.1))
-        (λ t. still i y below_n t.0 (old k v at i below_n (subst (λ (m : ℕ). 0 < m) (same (is_number i)) holds) y t.1))
-        (told i y says_y))
-      (λ j w ne there i below_n holds y says_y. ⊎_elim
-        (λ is. absurd (owned_once held elsewhere n views k j v w (λ e. ne (sym e)) at there item lt mine owned (subst (λ (m : ℕ). Holds held m w) is holds)))
-        (λ other. still i y below_n other (old j w there i below_n holds y says_y))
-        (cases_eq i item))
+    (λ i below_n holds y says_y. ⊎_elim
+    (λ t. inl (ap tag' t.0 ∙ sets.here ∙ sym t.1))
+    (λ t. still i y below_n t.0 (old k v at i below_n (subst (λ (m : ℕ). 0 < m) (same (is_number i)) holds) y t.1))
+    (told i y says_y))
+    (λ j w ne there i below_n holds y says_y. ⊎_elim
+    (λ is. absurd (owned_once held elsewhere n views k j v w (λ e. ne (sym e)) at there item lt mine owned (subst (λ (m : ℕ). Holds held m w) is holds)))
+    (λ other. still i y below_n other (old j w there i below_n holds y says_y))
+    (cases_eq i item))
 
 pub known_win : {V : Type 0} (held : (ℕ → ℕ) → V → ℕ) (says : V → ℕ → ℕ → Type 0) (n : ℕ) (tag tag' : ℕ → ℕ) (views : List V) (k : ℕ) (v u : V) → get_elem? views k ≡ some v
     → (item : ℕ) → Sets n tag tag' item 0 → ((f : ℕ → ℕ) → held f u ≡ held f v)
@@ -115,15 +115,15 @@ pub known_win : {V : Type 0} (held : (ℕ → ℕ) → V → ℕ) (says : V → 
     → Known held says n tag views → Known held says n tag' (set views k u)
 known_win {V} held says n tag tag' views k v u at item sets same told old =
     let still : (i y : ℕ) → i < n → ((tag i ≡ y) ⊎ (tag i ≡ 0)) → (tag' i ≡ y) ⊎ (tag' i ≡ 0) = λ i y below_n before. ⊎_elim
-      (λ is. inr (ap tag' is ∙ sets.here))
-      (λ ne. ⊎_elim (λ a. inl (sets.others i below_n ne ∙ a)) (λ b. inr (sets.others i below_n ne ∙ b)) before)
-      (cases_eq i item) in
+    (λ is. inr (ap tag' is ∙ sets.here))
+    (λ ne. ⊎_elim (λ a. inl (sets.others i below_n ne ∙ a)) (λ b. inr (sets.others i below_n ne ∙ b)) before)
+    (cases_eq i item) in
     known_step held says n tag' views k u
-      (λ i below_n holds y says_y. ⊎_elim
-        (λ is. inr (ap tag' is ∙ sets.here))
-        (λ before. still i y below_n (old k v at i below_n (subst (λ (m : ℕ). 0 < m) (same (is_number i)) holds) y before))
-        (told i y says_y))
-      (λ j w ne there i below_n holds y says_y. still i y below_n (old j w there i below_n holds y says_y))
+    (λ i below_n holds y says_y. ⊎_elim
+    (λ is. inr (ap tag' is ∙ sets.here))
+    (λ before. still i y below_n (old k v at i below_n (subst (λ (m : ℕ). 0 < m) (same (is_number i)) holds) y before))
+    (told i y says_y))
+    (λ j w ne there i below_n holds y says_y. still i y below_n (old j w there i below_n holds y says_y))
 
 -- an item that is cut off is cut off with what is known of its tag
 pub known_split : {V : Type 0} (held : (ℕ → ℕ) → V → ℕ) (says : V → ℕ → ℕ → Type 0) (n : ℕ) (tag : ℕ → ℕ) (views : List V) (k : ℕ) (v left right : V) → get_elem? views k ≡ some v
@@ -131,20 +131,20 @@ pub known_split : {V : Type 0} (held : (ℕ → ℕ) → V → ℕ) (says : V �
     → Known held says n tag views → Known held says n tag (set views k left ++ right ∷ [])
 known_split {V} held says n tag views k v left right at in_left in_right old j w there =
     ⊎_elim
-      (λ before. known_step held says n tag views k left
-        (λ i lt holds x says_x. old k v at i lt (in_left i holds).0 x ((in_left i holds).1 x says_x))
-        (λ j' w' ne there'. old j' w' there')
-        j w before)
-      (λ is. subst (λ (y : V). (i : ℕ) → i < n → Holds held i y → (x : ℕ) → says y i x → (tag i ≡ x) ⊎ (tag i ≡ 0)) is (λ i lt holds x says_x. old k v at i lt (in_right i holds).0 x ((in_right i holds).1 x says_x)))
-      (at_snoc (set views k left) right w j there)
+    (λ before. known_step held says n tag views k left
+    (λ i lt holds x says_x. old k v at i lt (in_left i holds).0 x ((in_left i holds).1 x says_x))
+    (λ j' w' ne there'. old j' w' there')
+    j w before)
+    (λ is. subst (λ (y : V). (i : ℕ) → i < n → Holds held i y → (x : ℕ) → says y i x → (tag i ≡ x) ⊎ (tag i ≡ 0)) is (λ i lt holds x says_x. old k v at i lt (in_right i holds).0 x ((in_right i holds).1 x says_x)))
+    (at_snoc (set views k left) right w j there)
 
 pub known_join : {V : Type 0} (held : (ℕ → ℕ) → V → ℕ) (says : V → ℕ → ℕ → Type 0) (n : ℕ) (tag : ℕ → ℕ) (views : List V) (k other : ℕ) (v w both spent : V) → get_elem? views k ≡ some v → get_elem? views other ≡ some w
     → ((i x : ℕ) → Holds held i both → says both i x → (Holds held i v × says v i x) ⊎ (Holds held i w × says w i x)) → ((i : ℕ) → ¬ (Holds held i spent))
     → Known held says n tag views → Known held says n tag (set (set views k both) other spent)
 known_join {V} held says n tag views k other v w both spent at there from nothing old =
     known_step held says n tag (set views k both) other spent
-      (λ i lt holds x says_x. absurd (nothing i holds))
-      (λ j y ne in_both. known_step held says n tag views k both
-        (λ i lt holds x says_x. ⊎_elim (λ t. old k v at i lt t.0 x t.1) (λ t. old other w there i lt t.0 x t.1) (from i x holds says_x))
-        (λ j' y' ne' there'. old j' y' there')
-        j y in_both)
+    (λ i lt holds x says_x. absurd (nothing i holds))
+    (λ j y ne in_both. known_step held says n tag views k both
+    (λ i lt holds x says_x. ⊎_elim (λ t. old k v at i lt t.0 x t.1) (λ t. old other w there i lt t.0 x t.1) (from i x holds says_x))
+    (λ j' y' ne' there'. old j' y' there')
+    j y in_both)

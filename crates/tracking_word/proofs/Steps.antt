@@ -1,20 +1,20 @@
 -- Each step on a table of tags keeps its rule.
-use Rattle.std.proofs.Common.{ℕ, ◌≡◌, ◌≢◌, ◌+◌, ◌<◌, ◌≤◌, ◌==◌, ◌⊎◌, inl, inr, ⊎_elim, eqb, Bool, true, false, cond, List, [], ◌∷◌, ◌++◌, length, slice_index, get_or, set, replicate, refl, sym, ap, ◌∙◌, subst, arith, zero, suc, get_or-set_same, get_or-set_other, length-set}
+use Rattle.std.proofs.Common.{ℕ, ◌≡◌, ◌≢◌, ◌+◌, ◌<◌, ◌≤◌, ◌⊎◌, inl, inr, ⊎_elim, eqb, Bool, cond, List, [], ◌++◌, length, slice_index, set, replicate, refl, sym, ap, ◌∙◌, subst, arith, get_or-set_same, get_or-set_other, length-set}
 use Rattle.std.specs.List.{range_with_len}
 use Rattle.std.proofs.lemmas.List.{set-get_or, length-replicate, get_or-replicate}
 use Rattle.std.proofs.lemmas.Bool.{eq-eqb, ne_eqb, cases_eq, cases_lt}
 use mathlib.Core.Option.{none}
 use prog.Atomic.{either}
 use lib.ListN.{get_elem?}
-use Rattle.atomic_table.specs.Table.{State, Me, Step, Act, keeps, step, stepped, Valid, carried_after, opening, Splits, Joins}
-use Rattle.atomic_table.proofs.Lists.{exchanged, at_snoc, set_else}
+use Rattle.atomic_table.specs.Table.{State, Me, Act, keeps, step, stepped, Valid, carried_after, opening, Splits, Joins}
+use Rattle.atomic_table.proofs.Lists.{exchanged, set_else}
 use Rattle.unit_model.specs.Weights.{weigh, below, is_number}
 use Rattle.unit_model.proofs.Weights.{weigh-append, weigh_range, below_same, below_is_not}
 use Rattle.tracking_word.specs.declared.view.TagView.{TagView}
 use Rattle.tracking_word.specs.declared.view.TagEvent.{TagEvent}
 use Rattle.tracking_word.specs.declared.view.TagEvent.TheVariants.{Armed, Won, Gone}
-use Rattle.tracking_word.specs.Words.{Sets, Stays, standing}
-use Rattle.tracking_word.specs.Parts.{Counted, Owned, Known, Holds}
+use Rattle.tracking_word.specs.Words.{Sets, Stays}
+use Rattle.tracking_word.specs.Parts.{Holds}
 use Rattle.tracking_word.specs.Views.{item_of, tag_after, arm_weight, win_weight, last_tag, held_by, arms_of, wins_of, says, whole, empty, after, together, settling}
 use Rattle.tracking_word.specs.Rule.{TagsHold, Arms, Settles}
 use Rattle.tracking_word.proofs.Words.{standing_none}

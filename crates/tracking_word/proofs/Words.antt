@@ -1,8 +1,8 @@
 -- What one tag that changes does to the weight of them all.
-use Rattle.std.proofs.Common.{ℕ, ◌≡◌, ◌≢◌, ◌+◌, ◌<◌, ◌==◌, ◌&&◌, cond, Bool, true, false, refl, sym, ap, ◌∙◌, arith, inl, inr, ◌⊎◌}
-use Rattle.std.proofs.lemmas.Bool.{eq-eqb, ne_eqb, cases_eq}
+use Rattle.std.proofs.Common.{ℕ, ◌≡◌, ◌≢◌, ◌+◌, ◌<◌, ◌==◌, cond, Bool, refl, ap, ◌∙◌, arith}
+use Rattle.std.proofs.lemmas.Bool.{eq-eqb, ne_eqb}
 use Rattle.std.proofs.lemmas.Bool.Decides.{nat_tests}
-use Rattle.unit_model.specs.Weights.{below, one_if}
+use Rattle.unit_model.specs.Weights.{one_if}
 use Rattle.unit_model.proofs.Weights.{below_same, below_change, below_none}
 use Rattle.tracking_word.specs.Words.{Sets, Stays, tag_weight, standing, is_pair}
 

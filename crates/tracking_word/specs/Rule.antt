@@ -1,7 +1,6 @@
 -- The rule of a table of tags.
-use Rattle.std.specs.Prelude.{ℕ, ◌≡◌, ◌⊎◌, ◌<◌, List, [], length, slice_index}
+use Rattle.std.specs.Prelude.{ℕ, ◌≡◌, ◌⊎◌, length, slice_index}
 use Rattle.atomic_table.specs.Table.{State, Me, Step}
-use Rattle.unit_model.specs.Weights.{times}
 use Rattle.tracking_word.specs.declared.view.TagView.{TagView}
 use Rattle.tracking_word.specs.declared.view.TagEvent.TheVariants.{Armed}
 use Rattle.tracking_word.specs.Parts.{Counted, Owned, Known, Holds}

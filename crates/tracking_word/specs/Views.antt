@@ -1,11 +1,10 @@
 -- What a seat knows: the items that it holds, and what it did to tags, newest first.
-use Rattle.std.specs.Prelude.{ℕ, ◌≡◌, ◌+◌, ◌<◌, ◌≤◌, ◌==◌, ◌++◌, List, [], ◌∷◌, cond}
+use Rattle.std.specs.Prelude.{ℕ, ◌≡◌, ◌+◌, ◌==◌, ◌++◌, List, [], ◌∷◌, cond}
 use Rattle.std.specs.List.{range_with_len}
-use Rattle.unit_model.specs.Weights.{weigh, is_number, times}
+use Rattle.unit_model.specs.Weights.{weigh}
 use Rattle.tracking_word.specs.declared.view.TagEvent.{TagEvent}
 use Rattle.tracking_word.specs.declared.view.TagEvent.TheVariants.{Armed, Won, Gone}
 use Rattle.tracking_word.specs.declared.view.TagView.{TagView}
-use Rattle.tracking_word.specs.Parts.{Holds}
 
 -- ---- what one event says
 

@@ -1,4 +1,4 @@
-use Rattle.std.proofs.Common.{ℕ, ◌≡◌, ◌<◌, ◌≤◌, slice_index, arith}
+use Rattle.std.proofs.Common.{slice_index, arith}
 use Rattle.tracking_word.specs.Views.{arms_of, wins_of}
 use Rattle.tracking_word.proofs.Parts.{counted_pair}
 use Rattle.tracking_word.proofs.law.wins_match_arms.Goals as goal

@@ -1,4 +1,4 @@
-use Rattle.std.proofs.Common.{ℕ, ◌≡◌, ◌<◌, ◌∙◌, subst, sym}
+use Rattle.std.proofs.Common.{ℕ, ◌<◌, ◌∙◌, subst, sym}
 use Rattle.tracking_word.proofs.Steps.{arms}
 use Rattle.tracking_word.proofs.tags.Tags.arm.Goals as goal
 

@@ -1,4 +1,4 @@
-use Rattle.std.proofs.Common.{ℕ, ◌≡◌, ◌<◌, ◌≤◌, arith}
+use Rattle.std.proofs.Common.{◌<◌, arith}
 use Rattle.tracking_word.proofs.Steps.{joins}
 use Rattle.tracking_word.proofs.tags.Tags.join.Goals as goal
 
