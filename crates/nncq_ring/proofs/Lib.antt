@@ -1,0 +1,4 @@
+pub mod Numbers
+pub mod Exchanges
+pub mod Rising
+pub mod Noting
