@@ -1,13 +1,13 @@
 -- What a look shows, and that notes stay true.
-use Rattle.std.proofs.Common.{ℕ, ◌+◌, ◌-◌, ◌/◌, ◌%◌, ◌≡◌, ◌≤◌, ◌<◌, inl, inr, ⊎_elim, List, [], ◌∷◌, refl, sym, ap, ◌∙◌, subst, arith}
+use Rattle.std.proofs.Common.{ℕ, zero, suc, ◌+◌, ◌-◌, ◌/◌, ◌%◌, ◌≡◌, ◌≤◌, ◌<◌, inl, inr, ⊎_elim, List, [], ◌∷◌, refl, sym, ap, ◌∙◌, arith}
 use Rattle.std.proofs.lemmas.Bool.{cases_eq, cases_lt}
 use Rattle.nncq_ring.specs.declared.view.RingEvent.{RingEvent}
 use Rattle.nncq_ring.specs.declared.view.RingEvent.TheVariants.{SawTail, SawHead, SawEntry, Pushed, Popped}
 use Rattle.nncq_ring.specs.Words.{Words, logical_tail, IsWellFormed, places, line_of}
 use Rattle.nncq_ring.specs.Later.{Later}
 use Rattle.nncq_ring.specs.Notes.{EntryNoted, Noted, AllNoted}
-use Rattle.nncq_ring.proofs.Numbers.{turned_slot, turned_cycle}
-use Rattle.nncq_ring.proofs.Exchanges.{tail_cases, tail_full, tail_open, not_above}
+use Rattle.nncq_ring.proofs.Numbers.{turned_slot, turned_cycle, cycles_rise}
+use Rattle.nncq_ring.proofs.Exchanges.{tail_open, not_above}
 
 no_places : (n : ℕ) (w : Words) → logical_tail n w ≡ w.head → line_of n w ≡ []
 no_places n w is = let none_left : logical_tail n w - w.head ≡ 0 = omega (arith, is) in ap (places n w.entry w.head) none_left
@@ -22,11 +22,26 @@ empty_seen n h w fine seen before =
           (at, next, no_places n w (next ∙ sym at))
     ]
 
-pub full_seen : (n t : ℕ) (w : Words) → IsWellFormed n w → t ≤ w.tail → w.entry (t % n) / n ≡ t / n → t < logical_tail n w
-full_seen n t w fine seen has =
-    elim (cases_eq t w.tail) [
-      | inl is ↦ omega (arith, is, tail_full n w (subst (λ (m : ℕ). w.entry (m % n) / n ≡ m / n) is has))
-      | inr other ↦ ⊎_elim (λ a. omega (arith, a, seen, other)) (λ b. omega (arith, b, seen, other)) (tail_cases n w)
+-- A place from the logical tail on hasn't its cycle in its slot: the last place of the slot that is filled has a lower one.
+not_filled : (n : ℕ) (w : Words) → IsWellFormed n w → (t q fuel : ℕ) → q ≤ fuel → q ≤ t → q % n ≡ t % n → logical_tail n w ≤ q → ¬ (w.entry (t % n) / n ≡ t / n)
+not_filled n w fine t q zero small le slot high has = absurd (omega (arith, small, high, fine.front, fine.turned, fine.size))
+not_filled n w fine t q (suc fuel) small le slot high has =
+    let p : ℕ = q - n in
+    let turn : p + n ≡ q = omega (arith, high, fine.front, fine.turned) in
+    let slot' : p % n ≡ t % n = sym (turned_slot n p fine.size) ∙ ap (λ (m : ℕ). m % n) turn ∙ slot in
+    elim (cases_lt p (logical_tail n w)) [
+      | inl last ↦
+          let here : w.entry (t % n) / n ≡ p / n = ap (λ (j : ℕ). w.entry j / n) (sym slot') ∙ fine.cycles p last (omega (arith, high, turn)) in
+          let cycle : q / n ≡ p / n + 1 = ap (λ (m : ℕ). m / n) (sym turn) ∙ turned_cycle n p fine.size in
+          absurd (omega (arith, here, has, cycle, cycles_rise n q t fine.size le))
+      | inr le' ↦ not_filled n w fine t p fuel (omega (arith, small, turn, fine.size)) (omega (arith, le, turn)) slot' le' has
+    ]
+
+pub full_seen : (n t : ℕ) (w : Words) → IsWellFormed n w → w.entry (t % n) / n ≡ t / n → t < logical_tail n w
+full_seen n t w fine has =
+    elim (cases_lt t (logical_tail n w)) [
+      | inl lt ↦ lt
+      | inr le ↦ absurd (not_filled n w fine t t t (omega arith) (omega arith) refl le has)
     ]
 
 pub may_help : (n t : ℕ) (w : Words) → w.tail ≡ t → t < logical_tail n w → w.entry (w.tail % n) / n ≡ w.tail / n
@@ -60,8 +75,8 @@ starts n w pos turned same filled =
       no_places n w next,
     )
 
-pub look_noted : (n place : ℕ) (w : Words) → EntryNoted n w place (w.entry (place % n))
-look_noted n place w = record { filled = λ has. inl refl; vacant = λ has. inl refl }
+pub look_noted : (n place : ℕ) (w : Words) → IsWellFormed n w → EntryNoted n w place (w.entry (place % n))
+look_noted n place w fine = record { filled = λ has. inl refl; above = λ has. full_seen n place w fine has; vacant = λ has. inl refl }
 
 entry_stays : (n place x : ℕ) (w w' : Words) → Later n w w' → EntryNoted n w place x → EntryNoted n w' place x
 entry_stays n place x w w' later noted = record {
@@ -69,6 +84,7 @@ entry_stays n place x w w' later noted = record {
       (λ is. ⊎_elim (λ same. inl (same ∙ is)) (λ passed. inr passed) (later.filled place (ap (λ (m : ℕ). m / n) is ∙ has)))
       (λ passed. inr (omega (arith, passed, later.head)))
       (noted.filled has);
+  above = λ has. omega (arith, noted.above has, later.next);
   vacant = λ has. ⊎_elim
       (λ is. ⊎_elim (λ same. inl (same ∙ is)) (λ taken. inr taken) (later.vacant place (ap (λ (m : ℕ). m / n + 1) is ∙ has)))
       (λ taken. inr (omega (arith, taken, later.next)))

@@ -41,9 +41,9 @@ RoomFromOwnership = (n : ℕ) (w : Words) (held : (ℕ → ℕ) → ℕ) → IsW
 abbrev pub EmptySeen : Type 0
 EmptySeen = (n h : ℕ) (w : Words) → IsWellFormed n w → h ≤ w.head → w.entry (h % n) / n + 1 ≡ h / n → (w.head ≡ h) × (logical_tail n w ≡ h) × (line_of n w ≡ [])
 
--- An entry with the cycle of t, where t was the tail at some earlier time, shows that the logical tail is above t.
+-- An entry with the cycle of t shows that the logical tail is above t.
 abbrev pub FullSeen : Type 0
-FullSeen = (n t : ℕ) (w : Words) → IsWellFormed n w → t ≤ w.tail → w.entry (t % n) / n ≡ t / n → t < logical_tail n w
+FullSeen = (n t : ℕ) (w : Words) → IsWellFormed n w → w.entry (t % n) / n ≡ t / n → t < logical_tail n w
 
 -- Where the tail is t and the logical tail is above it, the entry at t has its cycle: so the tail may move on.
 abbrev pub MayHelp : Type 0
@@ -63,4 +63,4 @@ NotesStay = (n : ℕ) (w w' : Words) (log : List RingEvent) → Later n w w' →
 
 -- An entry that is read now is noted.
 abbrev pub LookNoted : Type 0
-LookNoted = (n place : ℕ) (w : Words) → EntryNoted n w place (w.entry (place % n))
+LookNoted = (n place : ℕ) (w : Words) → IsWellFormed n w → EntryNoted n w place (w.entry (place % n))

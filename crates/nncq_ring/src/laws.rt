@@ -1,4 +1,11 @@
 //! Laws on the words of a ring. Each function does nothing: its contract is the law.
+ghost use Rattle.std.specs.Prelude.{◌≡◌, ◌∷◌, List, ℕ, set};
+ghost use mathlib.Core.Option.{some};
+ghost use lib.ListN.{get_elem?};
+ghost use Rattle.nncq_ring.specs.Later.{Later};
+ghost use Rattle.nncq_ring.specs.Notes.{Noted, RingPart};
+ghost use Rattle.nncq_ring.specs.Words.{IsWellFormed, Words};
+ghost use Rattle.nncq_ring.specs.declared.view.RingEvent.{RingEvent};
 ghost use Rattle.nncq_ring.specs.LineLaws.{EmptySeen, FullSeen, LookNoted, MayHelp, MayTake, NotesStay, Starts, EntryExchange, EntryExchangeLater, HeadExchange, HeadExchangeLater, RoomFromOwnership, TailExchange, TailExchangeLater};
 
 pub fn won_entry_exchange()
@@ -46,4 +53,10 @@ pub fn notes_stay_true()
 
 pub fn a_look_is_noted()
     ensures { LookNoted }
+{}
+
+/// A ring's part of a rule is kept by a step that makes the words later and notes one event.
+pub fn parts_step()
+    ensures { (n : ℕ) (w : Words) (views : List (List RingEvent)) (k : ℕ) (v : List RingEvent) → get_elem? views k ≡ some v → RingPart n (λ log. log) w views → (w' : Words) (e : RingEvent) → Later n w w' → IsWellFormed n w' → Noted n w' e
+        → RingPart n (λ log. log) w' (set views k (e ∷ v)) }
 {}

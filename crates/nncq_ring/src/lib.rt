@@ -6,7 +6,7 @@ mod view;
 
 pub use laws::{
     a_look_is_noted, a_ring_starts_empty, empty_is_seen, full_is_seen, head_may_be_taken,
-    notes_stay_true, tail_may_be_helped, there_is_room, won_entry_exchange, won_head_exchange,
-    won_tail_exchange,
+    notes_stay_true, parts_step, tail_may_be_helped, there_is_room, won_entry_exchange,
+    won_head_exchange, won_tail_exchange,
 };
 pub use view::RingEvent;
