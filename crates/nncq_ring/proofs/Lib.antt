@@ -1,0 +1,5 @@
+pub mod Numbers
+pub mod Exchanges
+pub mod Rising
+pub mod Noting
+pub mod RingParts

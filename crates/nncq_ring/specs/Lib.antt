@@ -1,0 +1,4 @@
+pub mod Words
+pub mod LineLaws
+pub mod Later
+pub mod Notes
