@@ -4,10 +4,16 @@
 //! It hands on the types of `unit_types`.
 #![tactic(auto)]
 
+mod conditions;
+mod effects;
+mod machine;
 mod runs;
+mod series;
 mod shape;
 
+pub use machine::{Core, Entry, Item, Note, Owner, Part, Queue, RunFault, Seat, Sides, Step, StepFault, Unmet, Whereabouts};
 pub use runs::{Run, Seen, no_longer_run, run_has_its_chunks};
+pub use series::Series;
 pub use shape::Shape;
 pub use unit_types::{Addr, Bytes, Field, Fields, Handlers, Reply, Request};
 
