@@ -1,10 +1,10 @@
 -- The conditions of a step, in their order, and the first that isn't met.
-use Rattle.std.specs.Prelude.{ℕ, zero, suc, ◌+◌, ◌-◌, ◌*◌, ◌^◌, ◌==◌, ◌&&◌, ◌||◌, not, min, nat_lt, nat_le, Bool, if◌then◌else◌, List, [], ◌∷◌, length, Option, Some, None}
+use Rattle.std.specs.Prelude.{ℕ, zero, suc, ◌+◌, ◌-◌, ◌*◌, ◌^◌, ◌==◌, ◌&&◌, ◌||◌, not, min, nat_lt, nat_le, Bool, if◌then◌else◌, List, [], ◌∷◌, count_by, length, Option, Some, None}
 use Rattle.std.specs.Option.{option_or}
 use Rattle.std.specs.List.{list_any}
 use Rattle.unit_model.specs.Core.{queue_of, item_of, number_in, is_last_in, first_place, first_item, whereabouts_code, seat_of, role_of, chunk_number, owner_code, owner_of, side_start, side_end, side_opened}
 use Rattle.unit_model.specs.Runs.{chunks_for}
-use Rattle.unit_model.specs.Weights.{weigh, count_of}
+use Rattle.unit_model.specs.Weights.{weigh}
 use Rattle.unit_model.specs.declared.machine.Core.{Core}
 use Rattle.unit_model.specs.declared.machine.Entry.{Entry}
 use Rattle.unit_model.specs.declared.machine.Item.{Item}
@@ -166,7 +166,7 @@ is_taken core stream = list_any (λ lists. has_stream stream lists.taken) core.s
 
 -- how many parts of the stream were sent
 abbrev pub parts_sent : Core → ℕ → ℕ
-parts_sent core stream = weigh (λ lists. count_of (λ part. part.stream == stream) lists.sent) core.seats
+parts_sent core stream = weigh (λ lists. count_by (λ part. part.stream == stream) lists.sent) core.seats
 
 -- the seat holds an item of the queue whose tag is the stream
 abbrev pub holds_tagged : Core → ℕ → ℕ → ℕ → Bool

@@ -1,5 +1,5 @@
 -- What a step does. All that a step doesn't name stays.
-use Rattle.std.specs.Prelude.{ℕ, zero, suc, ◌+◌, ◌-◌, ◌==◌, if◌then◌else◌, List, [], ◌∷◌, ◌++◌, drop, set}
+use Rattle.std.specs.Prelude.{ℕ, zero, suc, ◌+◌, ◌-◌, ◌==◌, Bool, if◌then◌else◌, List, [], ◌∷◌, ◌++◌, drop, set}
 use Rattle.unit_model.specs.Conditions.{part_of}
 use Rattle.unit_model.specs.Core.{item_of, number_in, is_last_in, role_of, chunk_number}
 use Rattle.unit_model.specs.Lists.{change_at}
@@ -79,9 +79,9 @@ abbrev pub armed_note : ℕ → ℕ → Item → Note
 armed_note queue stream item = if queue == 0 then Posted stream else Sent (part_of stream item)
 
 -- what the seat that settles an item has done by it
-abbrev pub settled_note : Core → ℕ → ℕ → ℕ → Item → Note
-settled_note core seat queue stream item =
-    if role_of core seat == 0
+abbrev pub settled_note : Bool → ℕ → ℕ → Item → Note
+settled_note is_engine queue stream item =
+    if is_engine
     then (if queue == 0 then Cancelled stream else Received (part_of stream item))
     else (if queue == 0 then Taken stream else Closed stream)
 
@@ -108,7 +108,7 @@ after_step core (Settle seat queue item stream) =
     let old = item_of core queue item in
     with_run_owner old.run (Seat seat)
     (with_item queue item (record old { tag = 0 })
-    (with_note seat (settled_note core seat queue stream old) core))
+    (with_note seat (settled_note (role_of core seat == 0) queue stream old) core))
 after_step core (GiveItem seat queue item place) =
     with_item queue item (record (item_of core queue item) { whereabouts = InFreeList })
     (with_free queue (record { place = place; item = item }) core)

@@ -26,7 +26,7 @@ const BLANK: Item = Item {
     whereabouts: Whereabouts::InFreeList,
 };
 
-fn unless(holds: bool, rule: u8, want: u64, found: u64) -> Option<Unmet>
+pub(crate) fn unless(holds: bool, rule: u8, want: u64, found: u64) -> Option<Unmet>
     ensures { result ≡ unless holds rule want found }
 {
     if holds {
@@ -119,7 +119,7 @@ fn owner_code(owner: Owner) -> u64
     }
 }
 
-fn whereabouts_code(whereabouts: Whereabouts) -> u64
+pub(crate) fn whereabouts_code(whereabouts: Whereabouts) -> u64
     ensures { result ≡ whereabouts_code whereabouts }
 {
     match whereabouts {
@@ -129,7 +129,7 @@ fn whereabouts_code(whereabouts: Whereabouts) -> u64
     }
 }
 
-fn chunk_number(segment: u32, chunk: u32) -> u64
+pub(crate) fn chunk_number(segment: u32, chunk: u32) -> u64
     ensures { result ≡ chunk_number segment chunk }
 {
     CHUNKS * segment as u64 + chunk as u64
@@ -201,6 +201,7 @@ impl Core {
         self.all_have_owner(code, chunk_number(run.segment as u32, run.chunk as u32), run.chunk_count())
     }
 
+    #[tactic(auto, using(crate::proofs::OwnedChunks::one_chunk))]
     fn all_have_owner(&self, code: u64, number: u64, count: u32) -> Option<Unmet>
         requires { number < 2 ^ 62 }
         ensures { result ≡ all_have_owner self.now code number count }
@@ -321,7 +322,7 @@ impl Core {
         unless(item as u64 == first, 7, first, item as u64)
     }
 
-    fn holds(&self, seat: u32, queue: u32, item: u32) -> bool
+    pub(crate) fn holds(&self, seat: u32, queue: u32, item: u32) -> bool
         ensures { result ≡ holds self.now seat queue item }
     {
         whereabouts_code(self.item_of(queue, item).whereabouts) == 1 + seat as u64
@@ -360,6 +361,26 @@ impl Core {
         let number = (segment as u64).saturating_sub(self.side_start(seat));
         unless(number < opened, 12, opened, number)
     }
+
+    #[tactic(auto, unfolding(crate::specs::Conditions::may_open))]
+    fn may_open(&self, seat: u32, count: u32) -> Option<Unmet>
+        ensures { result ≡ may_open self.now seat count }
+    {
+        let opened = self.side_opened(seat);
+        let some_left = opened < self.side_end(seat).saturating_sub(self.side_start(seat));
+        let want = if some_left { opened } else { PAST_ITEMS };
+        unless(some_left && count as u64 == opened, 13, want, count as u64)
+    }
+
+    #[tactic(auto, unfolding(crate::specs::Conditions::fits_side))]
+    fn fits_side(&self, seat: u32, run: Run) -> Option<Unmet>
+        ensures { result ≡ fits_side self.now seat run }
+    {
+        let in_segment = run.size > 0 && run.chunk as u64 + run.chunk_count() as u64 <= CHUNKS;
+        let segment = run.segment as u64;
+        let on_side = self.side_start(seat) <= segment && segment < self.side_end(seat);
+        unless(in_segment && on_side, 10, 1, 0)
+    }
 }
 
 #[tactic(auto, unfolding(crate::specs::Conditions::is_in_segments))]
@@ -373,4 +394,164 @@ fn is_in_segments(start: u64, end: u64, segment: u32, chunk: u32) -> Option<Unme
     let want = if is_chunk && number < start { CHUNKS * start } else { CHUNKS * end };
     let found = if is_chunk { chunk_number(segment, chunk) } else { PAST_ITEMS };
     unless(is_chunk && start <= number && number < end, 3, want, found)
+}
+
+// The first of these conditions that isn't met.
+fn first_of(conditions: &[Option<Unmet>]) -> Option<Unmet>
+    ensures { result ≡ first_of conditions.now }
+{
+    match conditions {
+        [] => None,
+        [first, rest @ ..] => first.or(first_of(rest)),
+    }
+}
+
+impl Core {
+    /// The first condition of the step that isn't met.
+    #[tactic(auto, unfolding(crate::specs::Conditions::conditions_of))]
+    pub(crate) fn first_unmet(&self, step: &Step) -> Option<Unmet>
+        ensures { result ≡ first_unmet self.now step.now }
+    {
+        match *step {
+            Step::Draw { seat, stream } => first_of(&[self.is_engine(seat), self.is_next_stream(stream)]),
+            Step::Claim { seat, segment, chunk } => self.first_of_claim(seat, segment, chunk),
+            Step::Release { seat, segment, chunk } => self.first_of_release(seat, segment, chunk),
+            Step::Open { seat, count } => first_of(&[self.is_either(seat), self.may_open(seat, count)]),
+            Step::GetItem { seat, queue, item, place } => first_of(&[
+                self.is_either(seat),
+                self.may_fill(seat, queue, item),
+                self.is_first_free_place(queue, place),
+                self.is_first_free_item(queue, item),
+            ]),
+            Step::SetRun { seat, queue, item, run } => first_of(&[
+                self.is_either(seat),
+                self.may_fill(seat, queue, item),
+                self.seat_holds(seat, queue, item),
+                self.has_tag(queue, item, 0),
+                self.fits_side(seat, run),
+                self.run_has_owner(1 + seat as u64, run),
+            ]),
+            Step::SetPart { seat, queue, item, .. } => first_of(&[
+                self.is_either(seat),
+                self.may_fill(seat, queue, item),
+                self.seat_holds(seat, queue, item),
+                self.has_tag(queue, item, 0),
+            ]),
+            Step::Arm { seat, queue, item, stream } => self.first_of_arm(seat, queue, item, stream),
+            Step::Push { seat, queue, item, place } => first_of(&[
+                self.is_either(seat),
+                self.may_fill(seat, queue, item),
+                self.seat_holds(seat, queue, item),
+                self.is_tagged(queue, item),
+                self.is_next_line_place(queue, place),
+            ]),
+            Step::Pop { seat, queue, item, place } => first_of(&[
+                self.may_pop(seat, queue),
+                self.may_empty(seat, queue, item),
+                self.is_first_line_place(queue, place),
+                self.is_first_line_item(queue, item),
+            ]),
+            Step::Settle { seat, queue, item, stream } => first_of(&[
+                self.is_either(seat),
+                self.may_use(queue, item),
+                self.has_tag(queue, item, stream),
+                self.may_settle(seat, queue, item, stream),
+            ]),
+            Step::GiveItem { seat, queue, item, place } => first_of(&[
+                self.is_either(seat),
+                self.may_use(queue, item),
+                self.seat_holds(seat, queue, item),
+                self.has_tag(queue, item, 0),
+                self.is_next_free_place(queue, place),
+            ]),
+            Step::Abandon { seat, stream } => first_of(&[self.is_engine(seat), self.may_abandon(seat, stream)]),
+        }
+    }
+
+    #[tactic(auto, unfolding(crate::specs::Conditions::conditions_of))]
+    fn first_of_claim(&self, seat: u32, segment: u32, chunk: u32) -> Option<Unmet>
+        ensures { result ≡ first_unmet self.now (Step.Claim seat segment chunk) }
+    {
+        first_of(&[
+            self.is_either(seat),
+            is_in_segments(self.side_start(seat), self.side_end(seat), segment, chunk),
+            self.is_open(seat, segment),
+            self.has_owner(0, chunk_number(segment, chunk)),
+        ])
+    }
+
+    #[tactic(auto, unfolding(crate::specs::Conditions::conditions_of))]
+    fn first_of_release(&self, seat: u32, segment: u32, chunk: u32) -> Option<Unmet>
+        ensures { result ≡ first_unmet self.now (Step.Release seat segment chunk) }
+    {
+        let segments = self.shape.out_segments as u64 + self.shape.back_segments as u64;
+        first_of(&[
+            self.is_either(seat),
+            is_in_segments(0, segments, segment, chunk),
+            self.has_owner(1 + seat as u64, chunk_number(segment, chunk)),
+        ])
+    }
+
+    #[tactic(auto, unfolding(crate::specs::Conditions::conditions_of))]
+    fn first_of_arm(&self, seat: u32, queue: u32, item: u32, stream: u64) -> Option<Unmet>
+        ensures { result ≡ first_unmet self.now (Step.Arm seat queue item stream) }
+    {
+        let run = self.item_of(queue, item).run;
+        first_of(&[
+            self.is_either(seat),
+            self.may_fill(seat, queue, item),
+            self.seat_holds(seat, queue, item),
+            self.has_tag(queue, item, 0),
+            self.fits_side(seat, run),
+            self.run_has_owner(1 + seat as u64, run),
+            self.may_arm(seat, queue, item, stream),
+        ])
+    }
+
+    // The role that a pop of the queue wants.
+    fn may_pop(&self, seat: u32, queue: u32) -> Option<Unmet>
+        ensures { result ≡ (if queue == 0 then is_worker self.now seat else is_engine self.now seat) }
+    {
+        if queue == 0 {
+            self.is_worker(seat)
+        } else {
+            self.is_engine(seat)
+        }
+    }
+
+    fn next_line(&self, queue: u32) -> u64
+        ensures { result ≡ (queue_of self.now queue).next_line }
+    {
+        let queues = self.queues.as_slice();
+        if queue as usize >= queues.len() {
+            return 0;
+        }
+        queues[queue as usize].next_line
+    }
+
+    fn next_free(&self, queue: u32) -> u64
+        ensures { result ≡ (queue_of self.now queue).next_free }
+    {
+        let queues = self.queues.as_slice();
+        if queue as usize >= queues.len() {
+            return 0;
+        }
+        queues[queue as usize].next_free
+    }
+
+    #[tactic(auto, unfolding(crate::specs::Conditions::is_next_line_place))]
+    fn is_next_line_place(&self, queue: u32, place: u64) -> Option<Unmet>
+        ensures { result ≡ is_next_line_place self.now queue place }
+    {
+        let next = self.next_line(queue);
+        unless(place == next && place < LAST_PLACE, 6, next.min(LAST_PLACE), place)
+    }
+
+    #[tactic(auto, unfolding(crate::specs::Conditions::is_next_free_place))]
+    fn is_next_free_place(&self, queue: u32, place: u64) -> Option<Unmet>
+        ensures { result ≡ is_next_free_place self.now queue place }
+    {
+        let next = self.next_free(queue);
+        unless(place == next && place < LAST_PLACE, 6, next.min(LAST_PLACE), place)
+    }
 }

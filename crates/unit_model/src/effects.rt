@@ -114,7 +114,7 @@ impl Core {
         self.owners.replace(number as usize, owner);
     }
 
-    #[tactic(auto, unfolding(crate::specs::Effects::with_run_owner))]
+    #[tactic(auto, using(crate::proofs::Lists::set_all_more), unfolding(crate::specs::Effects::with_run_owner))]
     pub(crate) fn set_run_owner(&mut self, run: Run, owner: Owner)
         ensures { self.new ≡ with_run_owner run owner self.old }
     {
