@@ -1,3 +1,5 @@
 pub mod Lists
+pub mod MetConditions
 pub mod OwnedChunks
+pub mod Running
 pub mod Weights

@@ -1,5 +1,5 @@
 //! The conditions of each step, in their order.
-ghost use Rattle.std.specs.Prelude.{◌≡◌, ◌∷◌, [], ◌+◌, ◌-◌, ◌*◌, ◌==◌, ◌<◌, ◌≤◌, ◌^◌, ◌↔◌, IsTrue, Option, get_or, length};
+ghost use Rattle.std.specs.Prelude.{if◌then◌else◌, ◌≡◌, ◌∷◌, [], ◌+◌, ◌-◌, ◌*◌, ◌==◌, ◌<◌, ◌≤◌, ◌^◌, ◌↔◌, IsTrue, Option, get_or, length};
 ghost use Rattle.unit_model.specs.Conditions.{all_have_owner, conditions_of, first_of, first_unmet, fits_side, has_owner, has_stream, has_tag, holds, holds_tagged, is_closed, is_either, is_engine, is_first_free_item, is_first_free_place, is_first_line_item, is_first_line_place, is_in_segments, is_last_sent, is_next_free_place, is_next_line_place, is_next_stream, is_open, is_same_part, is_tagged, is_taken, is_there, is_worker, may_abandon, may_arm, may_empty, may_fill, may_open, may_post, may_send, may_settle, may_use, may_win_part, may_win_request, part_of, parts_sent, run_has_owner, seat_holds, unless};
 ghost use Rattle.unit_model.specs.Core.{chunk_number, first_item, first_place, item_of, owner_code, owner_of, queue_of, role_of, seat_of, side_end, side_opened, side_start, whereabouts_code};
 

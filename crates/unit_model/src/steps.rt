@@ -1,7 +1,8 @@
 //! Steps of the core, one and many.
-ghost use Rattle.std.specs.Prelude.{◌≡◌, ◌<◌, ◌≤◌, ◌+◌, ◌^◌, OnOk, OnErr, IfErr, ℕ, Some, take, length, slice_get};
+ghost use Rattle.std.specs.Prelude.{◌≡◌, ◌<◌, ◌≤◌, ◌+◌, ◌^◌, OnOk, OnErr, IfErr, Some, take, length, slice_get};
 ghost use Rattle.unit_model.specs.Conditions.{first_unmet};
-ghost use Rattle.unit_model.specs.Effects.{after_step, armed_note, settled_note};
+ghost use Rattle.unit_model.specs.Core.{item_of};
+ghost use Rattle.unit_model.specs.Effects.{after_step, armed_note, settled_note, with_free, with_in_line, with_item, without_first_free, without_first_in_line};
 ghost use Rattle.unit_model.specs.Running.{AllEnabled, Enabled, IsFaultOf, after_steps};
 ghost use Rattle.unit_model.specs.declared.machine.Step.{Step};
 
@@ -77,7 +78,7 @@ impl Core {
                 Ok(())
             }
             Step::Open { seat, count } => {
-                self.set_opened(seat, count + 1);
+                self.open_next(seat, count);
                 Ok(())
             }
             Step::GetItem { seat, queue, item, .. } => {
@@ -118,8 +119,17 @@ impl Core {
     }
 
     #[tactic(auto, unfolding(crate::specs::Effects::after_step))]
+    fn open_next(&mut self, seat: u32, count: u32)
+        requires { Enabled self.old (Step.Open seat count) }
+        ensures { self.new ≡ after_step self.old (Step.Open seat count) }
+    {
+        // Fewer segments are open than the larger side has.
+        let _most = self.shape.out_segments.max(self.shape.back_segments);
+        self.set_opened(seat, count + 1);
+    }
+
     fn get_item(&mut self, seat: u32, queue: u32, item: u32)
-        ensures { (place : ℕ) → self.new ≡ after_step self.old (Step.GetItem seat queue item place) }
+        ensures { self.new ≡ with_item queue item (record (item_of self.old queue item) { whereabouts = Whereabouts.WithSeat seat }) (without_first_free queue self.old) }
     {
         let old = self.item_of(queue, item);
         self.drop_first_free(queue);
@@ -130,9 +140,8 @@ impl Core {
         self.set_item(queue, item, held);
     }
 
-    #[tactic(auto, unfolding(crate::specs::Effects::after_step))]
     fn pop(&mut self, seat: u32, queue: u32, item: u32)
-        ensures { (place : ℕ) → self.new ≡ after_step self.old (Step.Pop seat queue item place) }
+        ensures { self.new ≡ with_item queue item (record (item_of self.old queue item) { whereabouts = Whereabouts.WithSeat seat }) (without_first_in_line queue self.old) }
     {
         let old = self.item_of(queue, item);
         self.drop_first_in_line(queue);
@@ -143,10 +152,9 @@ impl Core {
         self.set_item(queue, item, held);
     }
 
-    #[tactic(auto, unfolding(crate::specs::Effects::after_step))]
     fn push(&mut self, queue: u32, item: u32, place: u64) -> Result<(), AllocError>
         requires { place < 2 ^ 63 }
-        ensures done { OnOk result ((seat : ℕ) → self.new ≡ after_step self.old (Step.Push seat queue item place)) }
+        ensures done { OnOk result (self.new ≡ with_item queue item (record (item_of self.old queue item) { whereabouts = Whereabouts.InLine }) (with_in_line queue (record { place = place; item = item }) self.old)) }
         ensures kept { OnErr result (self.new ≡ self.old) }
     {
         let old = self.item_of(queue, item);
@@ -159,10 +167,9 @@ impl Core {
         Ok(())
     }
 
-    #[tactic(auto, unfolding(crate::specs::Effects::after_step))]
     fn give_item(&mut self, queue: u32, item: u32, place: u64) -> Result<(), AllocError>
         requires { place < 2 ^ 63 }
-        ensures done { OnOk result ((seat : ℕ) → self.new ≡ after_step self.old (Step.GiveItem seat queue item place)) }
+        ensures done { OnOk result (self.new ≡ with_item queue item (record (item_of self.old queue item) { whereabouts = Whereabouts.InFreeList }) (with_free queue (record { place = place; item = item }) self.old)) }
         ensures kept { OnErr result (self.new ≡ self.old) }
     {
         let old = self.item_of(queue, item);

@@ -2,7 +2,7 @@
 ghost use Rattle.std.specs.Prelude.{◌≡◌, ◌∷◌, [], ◌+◌, ◌-◌, ◌==◌, ◌&&◌, ◌<◌, ◌≤◌, ◌/◌, ◌%◌, Option, count_by, length};
 ghost use Rattle.std.specs.List.{list_any};
 ghost use Rattle.unit_model.specs.Conditions.{conditions_of, first_of, first_unmet, fits_side, has_stream, holds, holds_tagged, is_closed, is_last_sent, is_same_part, is_taken, may_abandon, may_arm, may_open, may_post, may_send, may_settle, may_win_part, may_win_request, part_of, parts_sent, unless};
-ghost use Rattle.unit_model.specs.Core.{is_last_in, item_of, number_in, queue_of, seat_of};
+ghost use Rattle.unit_model.specs.Core.{is_last_in, item_of, number_in, queue_of, seat_of, whereabouts_code};
 ghost use Rattle.unit_model.specs.Weights.{weigh};
 
 use crate::conditions::{unless, whereabouts_code};
@@ -58,6 +58,19 @@ fn is_same_part(one: &Part, other: &Part) -> bool
         && if one.last { other.last } else { !other.last }
 }
 
+fn has_part(part: &Part, parts: &[Part]) -> bool
+    ensures { result ≡ list_any (is_same_part part.now) parts.now }
+{
+    parts.iter().any(|other| is_same_part(part, other))
+}
+
+// Whether an item of this tag is where this code says.
+fn has_held(code: u64, tag: u64, items: &[Item]) -> bool
+    ensures { result ≡ list_any (λ item. whereabouts_code item.whereabouts == code && item.tag == tag) items.now }
+{
+    items.iter().any(|item| whereabouts_code(item.whereabouts) == code && item.tag == tag)
+}
+
 // What a seat's lists have.
 impl Core {
     fn has_drawn(&self, seat: u32, stream: u64) -> bool
@@ -106,8 +119,7 @@ impl Core {
         ensures { result ≡ list_any (is_same_part part.now) (seat_of self.now seat).sent }
     {
         let seats = self.seats.as_slice();
-        (seat as usize) < seats.len()
-            && seats[seat as usize].sent.as_slice().iter().any(|other| is_same_part(part, other))
+        (seat as usize) < seats.len() && has_part(part, seats[seat as usize].sent.as_slice())
     }
 
     fn is_taken(&self, stream: u64) -> bool
@@ -135,12 +147,7 @@ impl Core {
         if queue as usize >= queues.len() {
             return false;
         }
-        let held = 1 + seat as u64;
-        queues[queue as usize]
-            .items
-            .as_slice()
-            .iter()
-            .any(|item| whereabouts_code(item.whereabouts) == held && item.tag == stream)
+        has_held(1 + seat as u64, stream, queues[queue as usize].items.as_slice())
     }
 }
 
