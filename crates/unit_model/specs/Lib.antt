@@ -1,7 +1,9 @@
 pub mod Conditions
 pub mod Core
 pub mod Effects
+pub mod Lines
 pub mod Lists
+pub mod Opening
 pub mod Running
 pub mod Runs
 pub mod Shapes

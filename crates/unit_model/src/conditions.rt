@@ -14,7 +14,7 @@ const LAST_STREAM: u64 = 1 << 62;
 
 const LAST_PLACE: u64 = 1 << 63;
 
-const BLANK: Item = Item {
+pub(crate) const BLANK: Item = Item {
     tag: 0,
     stream: 0,
     run: Run {

@@ -6,13 +6,16 @@
 
 mod conditions;
 mod effects;
+mod lines;
 mod machine;
+mod opening;
 mod runs;
 mod series;
 mod shape;
 mod steps;
 mod streams;
 
+pub use lines::step_line;
 pub use machine::{Core, Entry, Item, Note, Owner, Part, Queue, RunFault, Seat, Sides, Step, StepFault, Unmet, Whereabouts};
 pub use runs::{Run, Seen, no_longer_run, run_has_its_chunks};
 pub use series::Series;
