@@ -22,5 +22,5 @@ run_one_more core now new steps i d inside before is this done =
     let here : Enabled (after_steps core (take i steps)) step = subst (λ (k : Core). Enabled k step) is this in
     let all = enabled_one_more core (take i steps) step before here in
     let last : new ≡ after_steps core (take i steps ++ step ∷ []) =
-        done ∙ ap (λ (k : Core). after_step k step) is ∙ sym (after_one_more core (take i steps) step) in
+    done ∙ ap (λ (k : Core). after_step k step) is ∙ sym (after_one_more core (take i steps) step) in
     (subst (λ (l : List Step). AllEnabled core l) (sym more) all, subst (λ (l : List Step). new ≡ after_steps core l) (sym more) last)

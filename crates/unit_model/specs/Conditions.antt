@@ -204,8 +204,8 @@ abbrev pub may_win_part : Core → ℕ → ℕ → ℕ → ℕ → Bool
 may_win_part core seat queue item stream =
     holds core seat queue item
     && (if role_of core seat == 0
-        then queue == 1 + seat
-        else list_any (is_same_part (part_of stream (item_of core queue item))) (seat_of core seat).sent)
+    then queue == 1 + seat
+    else list_any (is_same_part (part_of stream (item_of core queue item))) (seat_of core seat).sent)
 
 unfoldable pub may_settle : Core → ℕ → ℕ → ℕ → ℕ → Option Unmet
 may_settle core seat queue item stream =

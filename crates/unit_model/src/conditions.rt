@@ -183,7 +183,12 @@ impl Core {
     fn is_next_stream(&self, stream: u64) -> Option<Unmet>
         ensures { result ≡ is_next_stream self.now stream }
     {
-        unless(stream == self.next && stream < LAST_STREAM, 2, self.next.min(LAST_STREAM), stream)
+        unless(
+            stream == self.next && stream < LAST_STREAM,
+            2,
+            self.next.min(LAST_STREAM),
+            stream,
+        )
     }
 
     #[tactic(auto, unfolding(crate::specs::Conditions::has_owner))]
@@ -198,7 +203,11 @@ impl Core {
     fn run_has_owner(&self, code: u64, run: Run) -> Option<Unmet>
         ensures { result ≡ run_has_owner self.now code run }
     {
-        self.all_have_owner(code, chunk_number(run.segment as u32, run.chunk as u32), run.chunk_count())
+        self.all_have_owner(
+            code,
+            chunk_number(run.segment as u32, run.chunk as u32),
+            run.chunk_count(),
+        )
     }
 
     #[tactic(auto, using(crate::proofs::OwnedChunks::one_chunk))]
@@ -219,7 +228,11 @@ impl Core {
     fn may_fill(&self, seat: u32, queue: u32, item: u32) -> Option<Unmet>
         ensures { result ≡ may_fill self.now seat queue item }
     {
-        let is_own = if self.role_of(seat) == 0 { queue == 0 } else { queue != 0 };
+        let is_own = if self.role_of(seat) == 0 {
+            queue == 0
+        } else {
+            queue != 0
+        };
         unless(self.is_there(queue, item) && is_own, 5, 1, 0)
     }
 
@@ -391,8 +404,16 @@ fn is_in_segments(start: u64, end: u64, segment: u32, chunk: u32) -> Option<Unme
 {
     let is_chunk = chunk < 640;
     let number = segment as u64;
-    let want = if is_chunk && number < start { CHUNKS * start } else { CHUNKS * end };
-    let found = if is_chunk { chunk_number(segment, chunk) } else { PAST_ITEMS };
+    let want = if is_chunk && number < start {
+        CHUNKS * start
+    } else {
+        CHUNKS * end
+    };
+    let found = if is_chunk {
+        chunk_number(segment, chunk)
+    } else {
+        PAST_ITEMS
+    };
     unless(is_chunk && start <= number && number < end, 3, want, found)
 }
 
@@ -413,17 +434,41 @@ impl Core {
         ensures { result ≡ first_unmet self.now step.now }
     {
         match *step {
-            Step::Draw { seat, stream } => first_of(&[self.is_engine(seat), self.is_next_stream(stream)]),
-            Step::Claim { seat, segment, chunk } => self.first_of_claim(seat, segment, chunk),
-            Step::Release { seat, segment, chunk } => self.first_of_release(seat, segment, chunk),
-            Step::Open { seat, count } => first_of(&[self.is_either(seat), self.may_open(seat, count)]),
-            Step::GetItem { seat, queue, item, place } => first_of(&[
+            Step::Draw { seat, stream } => first_of(&[
+                self.is_engine(seat),
+                self.is_next_stream(stream),
+            ]),
+            Step::Claim {
+                seat,
+                segment,
+                chunk,
+            } => self.first_of_claim(seat, segment, chunk),
+            Step::Release {
+                seat,
+                segment,
+                chunk,
+            } => self.first_of_release(seat, segment, chunk),
+            Step::Open { seat, count } => first_of(&[
+                self.is_either(seat),
+                self.may_open(seat, count),
+            ]),
+            Step::GetItem {
+                seat,
+                queue,
+                item,
+                place,
+            } => first_of(&[
                 self.is_either(seat),
                 self.may_fill(seat, queue, item),
                 self.is_first_free_place(queue, place),
                 self.is_first_free_item(queue, item),
             ]),
-            Step::SetRun { seat, queue, item, run } => first_of(&[
+            Step::SetRun {
+                seat,
+                queue,
+                item,
+                run,
+            } => first_of(&[
                 self.is_either(seat),
                 self.may_fill(seat, queue, item),
                 self.seat_holds(seat, queue, item),
@@ -431,40 +476,73 @@ impl Core {
                 self.fits_side(seat, run),
                 self.run_has_owner(1 + seat as u64, run),
             ]),
-            Step::SetPart { seat, queue, item, .. } => first_of(&[
+            Step::SetPart {
+                seat,
+                queue,
+                item,
+                ..
+            } => first_of(&[
                 self.is_either(seat),
                 self.may_fill(seat, queue, item),
                 self.seat_holds(seat, queue, item),
                 self.has_tag(queue, item, 0),
             ]),
-            Step::Arm { seat, queue, item, stream } => self.first_of_arm(seat, queue, item, stream),
-            Step::Push { seat, queue, item, place } => first_of(&[
+            Step::Arm {
+                seat,
+                queue,
+                item,
+                stream,
+            } => self.first_of_arm(seat, queue, item, stream),
+            Step::Push {
+                seat,
+                queue,
+                item,
+                place,
+            } => first_of(&[
                 self.is_either(seat),
                 self.may_fill(seat, queue, item),
                 self.seat_holds(seat, queue, item),
                 self.is_tagged(queue, item),
                 self.is_next_line_place(queue, place),
             ]),
-            Step::Pop { seat, queue, item, place } => first_of(&[
+            Step::Pop {
+                seat,
+                queue,
+                item,
+                place,
+            } => first_of(&[
                 self.may_pop(seat, queue),
                 self.may_empty(seat, queue, item),
                 self.is_first_line_place(queue, place),
                 self.is_first_line_item(queue, item),
             ]),
-            Step::Settle { seat, queue, item, stream } => first_of(&[
+            Step::Settle {
+                seat,
+                queue,
+                item,
+                stream,
+            } => first_of(&[
                 self.is_either(seat),
                 self.may_use(queue, item),
                 self.has_tag(queue, item, stream),
                 self.may_settle(seat, queue, item, stream),
             ]),
-            Step::GiveItem { seat, queue, item, place } => first_of(&[
+            Step::GiveItem {
+                seat,
+                queue,
+                item,
+                place,
+            } => first_of(&[
                 self.is_either(seat),
                 self.may_use(queue, item),
                 self.seat_holds(seat, queue, item),
                 self.has_tag(queue, item, 0),
                 self.is_next_free_place(queue, place),
             ]),
-            Step::Abandon { seat, stream } => first_of(&[self.is_engine(seat), self.may_abandon(seat, stream)]),
+            Step::Abandon { seat, stream } => first_of(&[
+                self.is_engine(seat),
+                self.may_abandon(seat, stream),
+            ]),
         }
     }
 
@@ -544,7 +622,12 @@ impl Core {
         ensures { result ≡ is_next_line_place self.now queue place }
     {
         let next = self.next_line(queue);
-        unless(place == next && place < LAST_PLACE, 6, next.min(LAST_PLACE), place)
+        unless(
+            place == next && place < LAST_PLACE,
+            6,
+            next.min(LAST_PLACE),
+            place,
+        )
     }
 
     #[tactic(auto, unfolding(crate::specs::Conditions::is_next_free_place))]
@@ -552,6 +635,11 @@ impl Core {
         ensures { result ≡ is_next_free_place self.now queue place }
     {
         let next = self.next_free(queue);
-        unless(place == next && place < LAST_PLACE, 6, next.min(LAST_PLACE), place)
+        unless(
+            place == next && place < LAST_PLACE,
+            6,
+            next.min(LAST_PLACE),
+            place,
+        )
     }
 }

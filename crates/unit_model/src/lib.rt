@@ -16,7 +16,10 @@ mod steps;
 mod streams;
 
 pub use lines::step_line;
-pub use machine::{Core, Entry, Item, Note, Owner, Part, Queue, RunFault, Seat, Sides, Step, StepFault, Unmet, Whereabouts};
+pub use machine::{
+    Core, Entry, Item, Note, Owner, Part, Queue, RunFault, Seat, Sides, Step, StepFault, Unmet,
+    Whereabouts,
+};
 pub use runs::{Run, Seen, no_longer_run, run_has_its_chunks};
 pub use series::Series;
 pub use shape::Shape;

@@ -24,41 +24,129 @@ fn line_of(alloc: Global, step: &Step) -> Result<Vec<u8>, AllocError>
 {
     match *step {
         Step::Draw { seat, stream } => line(alloc, b"draw", &[seat as u64, stream]),
-        Step::Claim { seat, segment, chunk } => {
-            line(alloc, b"claim", &[seat as u64, segment as u64, chunk as u64])
+        Step::Claim {
+            seat,
+            segment,
+            chunk,
+        } => {
+            line(
+                alloc,
+                b"claim",
+                &[seat as u64, segment as u64, chunk as u64],
+            )
         }
-        Step::Release { seat, segment, chunk } => {
-            line(alloc, b"release", &[seat as u64, segment as u64, chunk as u64])
+        Step::Release {
+            seat,
+            segment,
+            chunk,
+        } => {
+            line(
+                alloc,
+                b"release",
+                &[seat as u64, segment as u64, chunk as u64],
+            )
         }
         Step::Open { seat, count } => line(alloc, b"open", &[seat as u64, count as u64]),
-        Step::GetItem { seat, queue, item, place } => {
-            line(alloc, b"getitem", &[seat as u64, queue as u64, item as u64, place])
+        Step::GetItem {
+            seat,
+            queue,
+            item,
+            place,
+        } => {
+            line(
+                alloc,
+                b"getitem",
+                &[seat as u64, queue as u64, item as u64, place],
+            )
         }
-        Step::SetRun { seat, queue, item, run } => line(alloc, b"setrun", &[
-            seat as u64,
-            queue as u64,
-            item as u64,
-            run.segment as u64,
-            run.chunk as u64,
-            run.size as u64,
-        ]),
-        Step::SetPart { seat, queue, item, part } => {
-            line(alloc, b"setpart", &[seat as u64, queue as u64, item as u64, part])
+        Step::SetRun {
+            seat,
+            queue,
+            item,
+            run,
+        } => line(
+            alloc,
+            b"setrun",
+            &[
+                seat as u64,
+                queue as u64,
+                item as u64,
+                run.segment as u64,
+                run.chunk as u64,
+                run.size as u64,
+            ],
+        ),
+        Step::SetPart {
+            seat,
+            queue,
+            item,
+            part,
+        } => {
+            line(
+                alloc,
+                b"setpart",
+                &[seat as u64, queue as u64, item as u64, part],
+            )
         }
-        Step::Arm { seat, queue, item, stream } => {
-            line(alloc, b"arm", &[seat as u64, queue as u64, item as u64, stream])
+        Step::Arm {
+            seat,
+            queue,
+            item,
+            stream,
+        } => {
+            line(
+                alloc,
+                b"arm",
+                &[seat as u64, queue as u64, item as u64, stream],
+            )
         }
-        Step::Push { seat, queue, item, place } => {
-            line(alloc, b"push", &[seat as u64, queue as u64, item as u64, place])
+        Step::Push {
+            seat,
+            queue,
+            item,
+            place,
+        } => {
+            line(
+                alloc,
+                b"push",
+                &[seat as u64, queue as u64, item as u64, place],
+            )
         }
-        Step::Pop { seat, queue, item, place } => {
-            line(alloc, b"pop", &[seat as u64, queue as u64, item as u64, place])
+        Step::Pop {
+            seat,
+            queue,
+            item,
+            place,
+        } => {
+            line(
+                alloc,
+                b"pop",
+                &[seat as u64, queue as u64, item as u64, place],
+            )
         }
-        Step::Settle { seat, queue, item, stream } => {
-            line(alloc, b"settle", &[seat as u64, queue as u64, item as u64, stream])
+        Step::Settle {
+            seat,
+            queue,
+            item,
+            stream,
+        } => {
+            line(
+                alloc,
+                b"settle",
+                &[seat as u64, queue as u64, item as u64, stream],
+            )
         }
-        Step::GiveItem { seat, queue, item, place } => {
-            line(alloc, b"giveitem", &[seat as u64, queue as u64, item as u64, place])
+        Step::GiveItem {
+            seat,
+            queue,
+            item,
+            place,
+        } => {
+            line(
+                alloc,
+                b"giveitem",
+                &[seat as u64, queue as u64, item as u64, place],
+            )
         }
         Step::Abandon { seat, stream } => line(alloc, b"abandon", &[seat as u64, stream]),
     }

@@ -124,31 +124,88 @@ pub struct Core {
 #[derive(Clone, Copy, Debug, Drop)]
 pub enum Step {
     /// An engine draws the next stream.
-    Draw { seat: u32, stream: u64 },
+    Draw {
+        seat: u32,
+        stream: u64,
+    },
     /// A seat takes a free chunk of its side.
-    Claim { seat: u32, segment: u32, chunk: u32 },
+    Claim {
+        seat: u32,
+        segment: u32,
+        chunk: u32,
+    },
     /// A seat gives a chunk back.
-    Release { seat: u32, segment: u32, chunk: u32 },
+    Release {
+        seat: u32,
+        segment: u32,
+        chunk: u32,
+    },
     /// A seat opens one more segment of its side, of which `count` are open.
-    Open { seat: u32, count: u32 },
+    Open {
+        seat: u32,
+        count: u32,
+    },
     /// A seat takes the first free item of a queue.
-    GetItem { seat: u32, queue: u32, item: u32, place: u64 },
+    GetItem {
+        seat: u32,
+        queue: u32,
+        item: u32,
+        place: u64,
+    },
     /// A seat writes the run of an item that it holds.
-    SetRun { seat: u32, queue: u32, item: u32, run: Run },
+    SetRun {
+        seat: u32,
+        queue: u32,
+        item: u32,
+        run: Run,
+    },
     /// A seat writes the part word of an item that it holds.
-    SetPart { seat: u32, queue: u32, item: u32, part: u64 },
+    SetPart {
+        seat: u32,
+        queue: u32,
+        item: u32,
+        part: u64,
+    },
     /// A seat makes an item that it holds the message of a stream.
-    Arm { seat: u32, queue: u32, item: u32, stream: u64 },
+    Arm {
+        seat: u32,
+        queue: u32,
+        item: u32,
+        stream: u64,
+    },
     /// A seat puts an item that it holds into the queue's line.
-    Push { seat: u32, queue: u32, item: u32, place: u64 },
+    Push {
+        seat: u32,
+        queue: u32,
+        item: u32,
+        place: u64,
+    },
     /// A seat takes the first item of a queue's line.
-    Pop { seat: u32, queue: u32, item: u32, place: u64 },
+    Pop {
+        seat: u32,
+        queue: u32,
+        item: u32,
+        place: u64,
+    },
     /// A seat wins the message of an item.
-    Settle { seat: u32, queue: u32, item: u32, stream: u64 },
+    Settle {
+        seat: u32,
+        queue: u32,
+        item: u32,
+        stream: u64,
+    },
     /// A seat puts an item that it holds back into the free list.
-    GiveItem { seat: u32, queue: u32, item: u32, place: u64 },
+    GiveItem {
+        seat: u32,
+        queue: u32,
+        item: u32,
+        place: u64,
+    },
     /// An engine gives up a stream that a worker has taken.
-    Abandon { seat: u32, stream: u64 },
+    Abandon {
+        seat: u32,
+        stream: u64,
+    },
 }
 
 /// A condition of a step that isn't met.

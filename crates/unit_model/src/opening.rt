@@ -49,7 +49,10 @@ fn fresh_queues(alloc: Global, shape: &Shape) -> Result<Vec<Queue>, AllocError>
     let mut queues = Vec::new(alloc);
     push(&mut queues, fresh_queue(alloc, shape.start, shape.items)?)?;
     for _ in 0..shape.engines {
-        push(&mut queues, fresh_queue(alloc, shape.start, shape.back_items)?)?;
+        push(
+            &mut queues,
+            fresh_queue(alloc, shape.start, shape.back_items)?,
+        )?;
     }
     Ok(queues)
 }

@@ -53,7 +53,10 @@ pub fn run_core(core: &mut Core, steps: &[Step]) -> Result<(), RunFault>
 {
     for (i, step) in steps.iter().enumerate() {
         if let Err(fault) = step_core(core, step) {
-            return Err(RunFault { at: i as u64, fault });
+            return Err(RunFault {
+                at: i as u64,
+                fault,
+            });
         }
     }
     Ok(())
@@ -69,7 +72,11 @@ impl Core {
     {
         match *step {
             Step::Draw { seat, stream } => self.draw(seat, stream),
-            Step::Claim { seat, segment, chunk } => {
+            Step::Claim {
+                seat,
+                segment,
+                chunk,
+            } => {
                 self.set_owner(chunk_number(segment, chunk), Owner::Seat(seat));
                 Ok(())
             }
@@ -81,28 +88,68 @@ impl Core {
                 self.open_next(seat, count);
                 Ok(())
             }
-            Step::GetItem { seat, queue, item, .. } => {
+            Step::GetItem {
+                seat,
+                queue,
+                item,
+                ..
+            } => {
                 self.get_item(seat, queue, item);
                 Ok(())
             }
-            Step::SetRun { queue, item, run, .. } => {
+            Step::SetRun {
+                queue,
+                item,
+                run,
+                ..
+            } => {
                 let old = self.item_of(queue, item);
                 self.set_item(queue, item, Item { run, ..old });
                 Ok(())
             }
-            Step::SetPart { queue, item, part, .. } => {
+            Step::SetPart {
+                queue,
+                item,
+                part,
+                ..
+            } => {
                 let old = self.item_of(queue, item);
                 self.set_item(queue, item, Item { part, ..old });
                 Ok(())
             }
-            Step::Arm { seat, queue, item, stream } => self.arm(seat, queue, item, stream),
-            Step::Push { queue, item, place, .. } => self.push(queue, item, place),
-            Step::Pop { seat, queue, item, .. } => {
+            Step::Arm {
+                seat,
+                queue,
+                item,
+                stream,
+            } => self.arm(seat, queue, item, stream),
+            Step::Push {
+                queue,
+                item,
+                place,
+                ..
+            } => self.push(queue, item, place),
+            Step::Pop {
+                seat,
+                queue,
+                item,
+                ..
+            } => {
                 self.pop(seat, queue, item);
                 Ok(())
             }
-            Step::Settle { seat, queue, item, stream } => self.settle(seat, queue, item, stream),
-            Step::GiveItem { queue, item, place, .. } => self.give_item(queue, item, place),
+            Step::Settle {
+                seat,
+                queue,
+                item,
+                stream,
+            } => self.settle(seat, queue, item, stream),
+            Step::GiveItem {
+                queue,
+                item,
+                place,
+                ..
+            } => self.give_item(queue, item, place),
             Step::Abandon { seat, stream } => self.note(seat, Note::Abandoned(stream)),
         }
     }

@@ -98,14 +98,16 @@ impl Core {
         ensures { result ≡ has_stream stream (seat_of self.now seat).cancelled }
     {
         let seats = self.seats.as_slice();
-        (seat as usize) < seats.len() && has_stream(stream, seats[seat as usize].cancelled.as_slice())
+        (seat as usize) < seats.len()
+            && has_stream(stream, seats[seat as usize].cancelled.as_slice())
     }
 
     fn has_abandoned(&self, seat: u32, stream: u64) -> bool
         ensures { result ≡ has_stream stream (seat_of self.now seat).abandoned }
     {
         let seats = self.seats.as_slice();
-        (seat as usize) < seats.len() && has_stream(stream, seats[seat as usize].abandoned.as_slice())
+        (seat as usize) < seats.len()
+            && has_stream(stream, seats[seat as usize].abandoned.as_slice())
     }
 
     fn has_received_last(&self, seat: u32, stream: u64) -> bool
@@ -125,19 +127,28 @@ impl Core {
     fn is_taken(&self, stream: u64) -> bool
         ensures { result ≡ is_taken self.now stream }
     {
-        self.seats.as_slice().iter().any(|lists| has_stream(stream, lists.taken.as_slice()))
+        self.seats
+            .as_slice()
+            .iter()
+            .any(|lists| has_stream(stream, lists.taken.as_slice()))
     }
 
     fn is_closed(&self, stream: u64) -> bool
         ensures { result ≡ is_closed self.now stream }
     {
-        self.seats.as_slice().iter().any(|lists| has_stream(stream, lists.closed.as_slice()))
+        self.seats
+            .as_slice()
+            .iter()
+            .any(|lists| has_stream(stream, lists.closed.as_slice()))
     }
 
     fn is_last_sent(&self, stream: u64) -> bool
         ensures { result ≡ is_last_sent self.now stream }
     {
-        self.seats.as_slice().iter().any(|lists| has_last(stream, lists.sent.as_slice()))
+        self.seats
+            .as_slice()
+            .iter()
+            .any(|lists| has_last(stream, lists.sent.as_slice()))
     }
 
     fn holds_tagged(&self, seat: u32, queue: u32, stream: u64) -> bool
@@ -147,7 +158,11 @@ impl Core {
         if queue as usize >= queues.len() {
             return false;
         }
-        has_held(1 + seat as u64, stream, queues[queue as usize].items.as_slice())
+        has_held(
+            1 + seat as u64,
+            stream,
+            queues[queue as usize].items.as_slice(),
+        )
     }
 }
 
