@@ -1,8 +1,7 @@
 -- One entry more.
-use Rattle.std.proofs.Common.{◌≡◌, ℕ, suc, ◌+◌, List, [], ◌∷◌, ◌++◌, replicate, refl, ap, sym, arith}
+use Rattle.std.proofs.Common.{◌≡◌, ℕ, suc, ◌+◌, [], ◌∷◌, ◌++◌, replicate, refl, sym, arith}
 use Rattle.std.proofs.lemmas.List.{replicate_more}
 use Rattle.unit_model.specs.Opening.{first_entries}
-use Rattle.unit_model.specs.declared.machine.Entry.{Entry}
 
 pub one_entry_more : (start item : ℕ) → first_entries start (item + 1) ≡ first_entries start item ++ (record { place = start + item; item = item }) ∷ []
 one_entry_more start item = let one : item + 1 ≡ suc item = omega arith in rw one refl

@@ -1,6 +1,5 @@
 -- One chunk more of several that are to have an owner.
 use Rattle.std.proofs.Common.{◌≡◌, ℕ, zero, suc, ◌+◌, ◌-◌, ◌<◌, refl, arith}
-use Rattle.std.specs.Prelude.{Option, None}
 use Rattle.std.specs.Option.{option_or}
 use Rattle.unit_model.specs.Conditions.{all_have_owner, has_owner}
 use Rattle.unit_model.specs.declared.machine.Core.{Core}

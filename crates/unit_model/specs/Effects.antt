@@ -1,7 +1,7 @@
 -- What a step does. All that a step doesn't name stays.
-use Rattle.std.specs.Prelude.{ℕ, zero, suc, ◌+◌, ◌-◌, ◌==◌, Bool, if◌then◌else◌, List, [], ◌∷◌, ◌++◌, drop, set}
+use Rattle.std.specs.Prelude.{ℕ, zero, suc, ◌+◌, ◌==◌, Bool, if◌then◌else◌, List, [], ◌∷◌, ◌++◌, drop, set}
 use Rattle.unit_model.specs.Conditions.{part_of}
-use Rattle.unit_model.specs.Core.{item_of, number_in, is_last_in, role_of, chunk_number}
+use Rattle.unit_model.specs.Core.{item_of, role_of, chunk_number}
 use Rattle.unit_model.specs.Lists.{change_at}
 use Rattle.unit_model.specs.Runs.{chunks_for}
 use Rattle.unit_model.specs.declared.machine.Core.{Core}

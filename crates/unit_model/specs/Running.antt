@@ -1,5 +1,5 @@
 -- What a step answers, and what a list of steps does.
-use Rattle.std.specs.Prelude.{◌≡◌, ℕ, List, [], ◌∷◌, Option, Some, None}
+use Rattle.std.specs.Prelude.{◌≡◌, List, [], ◌∷◌, Option, Some, None}
 use Rattle.unit_model.specs.Conditions.{first_unmet}
 use Rattle.unit_model.specs.Effects.{after_step}
 use Rattle.unit_model.specs.declared.machine.Core.{Core}

@@ -1,6 +1,3 @@
-use Rattle.std.proofs.Common.{◌≡◌, subst}
-use Rattle.std.specs.Prelude.{None}
-use Rattle.unit_model.specs.Conditions.{first_unmet}
 use Rattle.unit_model.proofs.MetConditions.{draw_below, push_below, give_below}
 use Rattle.unit_model.proofs.machine.Core.do_step.Goals as goal
 

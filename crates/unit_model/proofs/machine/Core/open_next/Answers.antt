@@ -1,4 +1,4 @@
-use Rattle.std.proofs.Common.{◌≤◌, ◌<◌, ◌^◌, ◌-◌, arith}
+use Rattle.std.proofs.Common.{◌^◌, ◌-◌, arith}
 use Rattle.unit_model.proofs.MetConditions.{open_below}
 use Rattle.unit_model.proofs.machine.Core.open_next.Goals as goal
 

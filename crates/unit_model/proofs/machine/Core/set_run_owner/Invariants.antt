@@ -1,4 +1,4 @@
-use Rattle.std.proofs.Common.{◌≡◌, ◌+◌, ◌*◌}
+use Rattle.std.proofs.Common.{◌≡◌}
 use Rattle.unit_model.specs.Core.{chunk_number}
 use Rattle.unit_model.specs.Effects.{set_all}
 use Rattle.unit_model.proofs.machine.Core.set_run_owner.Given as goal
