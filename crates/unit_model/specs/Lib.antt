@@ -1,3 +1,10 @@
+pub mod Conditions
+pub mod Core
+pub mod Effects
+pub mod Lines
+pub mod Lists
+pub mod Opening
+pub mod Running
 pub mod Runs
 pub mod Shapes
 pub mod Weights

@@ -4,11 +4,26 @@
 //! It hands on the types of `unit_types`.
 #![tactic(auto)]
 
+mod conditions;
+mod effects;
+mod lines;
+mod machine;
+mod opening;
 mod runs;
+mod series;
 mod shape;
+mod steps;
+mod streams;
 
+pub use lines::step_line;
+pub use machine::{
+    Core, Entry, Item, Note, Owner, Part, Queue, RunFault, Seat, Sides, Step, StepFault, Unmet,
+    Whereabouts,
+};
 pub use runs::{Run, Seen, no_longer_run, run_has_its_chunks};
+pub use series::Series;
 pub use shape::Shape;
+pub use steps::{run_core, step_core};
 pub use unit_types::{Addr, Bytes, Field, Fields, Handlers, Reply, Request};
 
 #[cfg(test)]
