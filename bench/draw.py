@@ -3,7 +3,7 @@ import os
 from xml.sax.saxutils import escape
 
 HERE = os.path.dirname(os.path.abspath(__file__))
-LEFT, SCALE, ROW = 400, 110, 26
+LEFT, SCALE, ROW = 480, 110, 26
 
 
 def rows():
