@@ -50,10 +50,11 @@ pieces_of text = pieces_past 0 text
 
 -- ---- the set of the variables
 
--- the name is a prefix with something behind it
+-- the name begins with a prefix
 abbrev pub has_prefix : List ℕ → List ℕ → Bool
 has_prefix prefix name = bytes_eq (take (length prefix) name) prefix
 
+-- the name is a prefix with something behind it
 abbrev pub has_name_behind : List ℕ → List ℕ → Bool
 has_name_behind prefix name = has_prefix prefix name && nat_lt (length prefix) (length name)
 
