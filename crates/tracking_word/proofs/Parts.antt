@@ -6,11 +6,12 @@ use Rattle.atomic_table.proofs.Lists.{at_set, at_snoc}
 use mathlib.Core.Option.{some}
 use lib.ListN.{get_elem?}
 use Rattle.unit_model.specs.Weights.{weigh, is_number, one_if}
-use Rattle.unit_model.proofs.Weights.{below_is}
 use Rattle.tracking_word.specs.Words.{Sets, Stays, is_pair}
-use Rattle.tracking_word.specs.Parts.{Counted, Owned, Known, Holds}
+use Rattle.unit_model.specs.Sharing.{Owned, Holds}
+use Rattle.unit_model.proofs.Sharing.{owned_once}
+use Rattle.unit_model.proofs.Views.{sum_set, sum_split, sum_join}
+use Rattle.tracking_word.specs.Parts.{Counted, Known}
 use Rattle.tracking_word.proofs.Words.{standing_stays, standing_armed, standing_settled, standing_pair}
-use Rattle.tracking_word.proofs.Views.{sum_set, sum_two, sum_split, sum_join}
 
 -- ---- as many wins as arms, or one fewer
 
@@ -50,26 +51,6 @@ counted_join arms wins n tag views k other v w both spent at there armed won old
 pub counted_pair : {V : Type 0} (arms wins : (ℕ → ℕ → ℕ) → V → ℕ) (n : ℕ) (tag : ℕ → ℕ) (views : List V) → Counted arms wins n tag views
     → (item stream : ℕ) → item < n → 0 < stream → weigh (arms (is_pair item stream)) views ≡ weigh (wins (is_pair item stream)) views + one_if (tag item == stream)
 counted_pair arms wins n tag views counted item stream lt pos = omega (arith, counted (is_pair item stream), standing_pair n tag item stream lt pos)
-
--- ---- each item in one place
-
-pub owned_stays : {V : Type 0} (held : (ℕ → ℕ) → V → ℕ) (elsewhere : (ℕ → ℕ) → ℕ) (n : ℕ) (views : List V) (k : ℕ) (v u : V) → get_elem? views k ≡ some v
-    → ((f : ℕ → ℕ) → held f u ≡ held f v) → Owned held elsewhere n views → Owned held elsewhere n (set views k u)
-owned_stays held elsewhere n views k v u at same old f = omega (arith, old f, same f, sum_set (held f) views k v u at)
-
-pub owned_split : {V : Type 0} (held : (ℕ → ℕ) → V → ℕ) (elsewhere : (ℕ → ℕ) → ℕ) (n : ℕ) (views : List V) (k : ℕ) (v left right : V) → get_elem? views k ≡ some v
-    → ((f : ℕ → ℕ) → held f left + held f right ≡ held f v) → Owned held elsewhere n views → Owned held elsewhere n (set views k left ++ right ∷ [])
-owned_split held elsewhere n views k v left right at parts old f = omega (arith, old f, sum_split (held f) views k v left right at (parts f))
-
-pub owned_join : {V : Type 0} (held : (ℕ → ℕ) → V → ℕ) (elsewhere : (ℕ → ℕ) → ℕ) (n : ℕ) (views : List V) (k other : ℕ) (v w both spent : V) → get_elem? views k ≡ some v → get_elem? (set views k both) other ≡ some w
-    → ((f : ℕ → ℕ) → held f both + held f spent ≡ held f v + held f w) → Owned held elsewhere n views → Owned held elsewhere n (set (set views k both) other spent)
-owned_join held elsewhere n views k other v w both spent at there parts old f = omega (arith, old f, sum_join (held f) views k other v w both spent at there (parts f))
-
--- no two seats hold one item
-pub owned_once : {V : Type 0} (held : (ℕ → ℕ) → V → ℕ) (elsewhere : (ℕ → ℕ) → ℕ) (n : ℕ) (views : List V) (j k : ℕ) (v w : V) → j ≢ k → get_elem? views j ≡ some v → get_elem? views k ≡ some w
-    → (item : ℕ) → item < n → Holds held item v → Owned held elsewhere n views → ¬ (Holds held item w)
-owned_once held elsewhere n views j k v w apart one two item lt mine old theirs =
-    absurd (omega (arith, mine, theirs, old (is_number item), sum_two (held (is_number item)) views j k v w apart one two, below_is n item lt))
 
 -- ---- what the holder of an item knows of its tag
 

@@ -13,12 +13,13 @@ use Rattle.unit_model.proofs.Weights.{weigh-append, weigh_range, below_same, bel
 use Rattle.tracking_word.specs.declared.view.TagView.{TagView}
 use Rattle.tracking_word.specs.declared.view.TagEvent.{TagEvent}
 use Rattle.tracking_word.specs.declared.view.TagEvent.TheVariants.{Armed, Won, Gone}
+use Rattle.unit_model.proofs.Sharing.{owned_stays, owned_split, owned_join}
 use Rattle.tracking_word.specs.Words.{Sets, Stays}
-use Rattle.tracking_word.specs.Parts.{Holds}
+use Rattle.unit_model.specs.Sharing.{Holds}
 use Rattle.tracking_word.specs.Views.{item_of, tag_after, arm_weight, win_weight, last_tag, held_by, arms_of, wins_of, says, whole, empty, after, together, settling}
 use Rattle.tracking_word.specs.Rule.{TagsHold, Arms, Settles}
 use Rattle.tracking_word.proofs.Words.{standing_none}
-use Rattle.tracking_word.proofs.Parts.{counted_stays, counted_arm, counted_win, counted_split, counted_join, owned_stays, owned_split, owned_join, known_stays, known_arm, known_win, known_split, known_join}
+use Rattle.tracking_word.proofs.Parts.{counted_stays, counted_arm, counted_win, counted_split, counted_join, known_stays, known_arm, known_win, known_split, known_join}
 
 -- what the log says after one event more
 after_says : (e : TagEvent) (v : TagView) (i x : ℕ) → says (after e v) i x → ((i ≡ item_of e) × (x ≡ tag_after e)) ⊎ ((i ≢ item_of e) × says v i x)

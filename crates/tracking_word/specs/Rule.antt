@@ -3,7 +3,8 @@ use Rattle.std.specs.Prelude.{ℕ, ◌≡◌, ◌⊎◌, length, slice_index}
 use Rattle.atomic_table.specs.Table.{State, Me, Step}
 use Rattle.tracking_word.specs.declared.view.TagView.{TagView}
 use Rattle.tracking_word.specs.declared.view.TagEvent.TheVariants.{Armed}
-use Rattle.tracking_word.specs.Parts.{Counted, Owned, Known, Holds}
+use Rattle.unit_model.specs.Sharing.{Owned, Holds}
+use Rattle.tracking_word.specs.Parts.{Counted, Known}
 use Rattle.tracking_word.specs.Views.{held_by, arms_of, wins_of, says, last_tag, after, settling}
 
 -- word i is the tag of item i

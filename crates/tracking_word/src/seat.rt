@@ -1,6 +1,6 @@
 //! A seat at tags.
 ghost use Rattle.std.specs.Prelude.{◌≡◌, ◌<◌, ℕ, [], length};
-ghost use Rattle.tracking_word.specs.Parts.{Holds};
+ghost use Rattle.unit_model.specs.Sharing.{Holds};
 ghost use Rattle.tracking_word.specs.Views.{held_by};
 
 use crate::view::TagView;

@@ -73,7 +73,7 @@ pub enum Settle {
 }
 
 impl Tags {
-    ghost use Rattle.tracking_word.specs.Parts.{Holds};
+    ghost use Rattle.unit_model.specs.Sharing.{Holds};
     ghost use Rattle.tracking_word.specs.Views.{held_by, last_tag, whole, empty, after, together, settling};
     ghost use Rattle.tracking_word.specs.Seats.{BelongsTo, knows};
     ghost use Rattle.tracking_word.specs.declared.view.TagEvent.TheVariants.{Armed, Won, Gone};

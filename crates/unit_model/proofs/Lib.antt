@@ -3,4 +3,6 @@ pub mod Lists
 pub mod MetConditions
 pub mod OwnedChunks
 pub mod Running
+pub mod Sharing
+pub mod Views
 pub mod Weights

@@ -7,4 +7,5 @@ pub mod Opening
 pub mod Running
 pub mod Runs
 pub mod Shapes
+pub mod Sharing
 pub mod Weights

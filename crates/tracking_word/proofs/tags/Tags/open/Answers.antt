@@ -1,6 +1,6 @@
 use Rattle.std.proofs.Common.{ℕ, ◌≡◌, ◌<◌, ◌∙◌, ap, sym, subst, length}
 use Rattle.std.proofs.lemmas.List.{length-replicate}
-use Rattle.tracking_word.specs.Parts.{Holds}
+use Rattle.unit_model.specs.Sharing.{Holds}
 use Rattle.tracking_word.specs.Views.{held_by}
 use Rattle.tracking_word.proofs.Steps.{opens, whole_below}
 use Rattle.tracking_word.proofs.tags.Tags.open.Goals as goal
