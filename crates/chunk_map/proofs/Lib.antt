@@ -1,0 +1,4 @@
+pub mod Numbers
+pub mod FreeChunks
+pub mod OpenSegments
+mod MapSteps

@@ -1,0 +1,52 @@
+-- What a seat's events, newest first, say of chunks. The events since the newest load of the open word are those of one
+-- search.
+use Rattle.std.specs.Prelude.{ℕ, ◌/◌, ◌%◌, ◌≡◌, ◌==◌, ◌||◌, Bool, true, false, if◌then◌else◌, List, [], ◌∷◌}
+use Rattle.std.specs.Int.{bit_at}
+use Rattle.chunk_map.specs.declared.view.MapEvent.{MapEvent}
+use Rattle.chunk_map.specs.declared.view.MapEvent.TheVariants.{SawOpen, SawWord, Gained, Missed, Released, Opened, FoundOpen}
+
+-- the newest number of open segments, which is at least 1
+abbrev pub open_seen : List MapEvent → ℕ
+open_seen [] = 1
+open_seen (SawOpen count ∷ events) = count
+open_seen (SawWord number found ∷ events) = open_seen events
+open_seen (Gained chunk ∷ events) = open_seen events
+open_seen (Missed chunk ∷ events) = open_seen events
+open_seen (Released chunk ∷ events) = open_seen events
+open_seen (Opened count ∷ events) = count
+open_seen (FoundOpen count ∷ events) = count
+
+-- the search gained the chunk
+abbrev pub was_gained : List MapEvent → ℕ → Bool
+was_gained [] chunk = false
+was_gained (SawOpen count ∷ events) chunk = false
+was_gained (SawWord number found ∷ events) chunk = was_gained events chunk
+was_gained (Gained other ∷ events) chunk = if other == chunk then true else was_gained events chunk
+was_gained (Missed other ∷ events) chunk = was_gained events chunk
+was_gained (Released other ∷ events) chunk = was_gained events chunk
+was_gained (Opened count ∷ events) chunk = was_gained events chunk
+was_gained (FoundOpen count ∷ events) chunk = was_gained events chunk
+
+-- The search's last look at the chunk found it free. A look is a load of the chunk's word, or a try to take its bit. A chunk
+-- that the search gained counts as found free from then on, also after it was given back.
+abbrev pub seen_free : List MapEvent → ℕ → Bool
+seen_free [] chunk = false
+seen_free (SawOpen count ∷ events) chunk = false
+seen_free (SawWord number found ∷ events) chunk = if chunk / 64 == number then bit_at found (chunk % 64) == 1 || was_gained events chunk else seen_free events chunk
+seen_free (Gained other ∷ events) chunk = if other == chunk then true else seen_free events chunk
+seen_free (Missed other ∷ events) chunk = if other == chunk then was_gained events chunk else seen_free events chunk
+seen_free (Released other ∷ events) chunk = seen_free events chunk
+seen_free (Opened count ∷ events) chunk = seen_free events chunk
+seen_free (FoundOpen count ∷ events) chunk = seen_free events chunk
+
+-- The events are those before a search, then its load of the open word, which gave this number, and then the search's others,
+-- none of which is such a load.
+abbrev pub Searched : ℕ → List MapEvent → List MapEvent → Type 0
+Searched opened before [] = ⊥
+Searched opened before (SawOpen count ∷ events) = (count ≡ opened) × (events ≡ before)
+Searched opened before (SawWord number found ∷ events) = Searched opened before events
+Searched opened before (Gained chunk ∷ events) = Searched opened before events
+Searched opened before (Missed chunk ∷ events) = Searched opened before events
+Searched opened before (Released chunk ∷ events) = Searched opened before events
+Searched opened before (Opened count ∷ events) = Searched opened before events
+Searched opened before (FoundOpen count ∷ events) = Searched opened before events

@@ -1,0 +1,15 @@
+//! A map of free chunks in words that several threads change by single atomic steps: a bit that is set is a free chunk, and
+//! who clears it has the chunk. A segment has 640 chunks; segments are opened on demand, the lowest ones first.
+//!
+//! `ChunkMap` has a table of its own. The laws stand in public modules that name no table (`Words`, `Parts`), so that a table
+//! with more words in it can be ruled by the same parts.
+#![tactic(auto)]
+
+mod map;
+mod search;
+mod seat;
+mod view;
+
+pub use map::ChunkMap;
+pub use seat::MapSeat;
+pub use view::{MapEvent, MapView};

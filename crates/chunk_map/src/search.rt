@@ -1,0 +1,74 @@
+//! Finding runs of set bits in the ten words of a segment, by operations on whole words.
+ghost use Rattle.std.specs.Prelude.{◌≡◌, ◌↔◌, ◌+◌, ◌*◌, ◌<◌, ◌≤◌, ℕ, min, IfSome, IfNone};
+ghost use Rattle.std.specs.Int.{bit_at};
+ghost use Rattle.chunk_map.specs.Search.{bit_of, AllSet, NoneSet};
+
+const WORDS: usize = 10;
+
+const BITS: usize = 640;
+
+// Word `number` of the words moved so many places down.
+fn moved(words: &[u64; WORDS], by: usize, number: usize) -> u64
+    requires { (number < 10) × (by < 640) }
+    ensures { (bit : ℕ) → bit < 64 → bit_at result bit ≡ bit_of words.now (64 * number + bit + by) }
+{
+    let from = number + by / 64;
+    let low = if from < WORDS {
+        words[from]
+    } else {
+        0
+    };
+    let shift = by % 64;
+    if shift == 0 {
+        return low;
+    }
+    let high = if from + 1 < WORDS {
+        words[from + 1]
+    } else {
+        0
+    };
+    (low >> shift) | (high << (64 - shift))
+}
+
+// The bits that are set both where they are and so many places up.
+fn both(starts: &[u64; WORDS], by: usize) -> [u64; WORDS]
+    requires { by < 640 }
+    ensures { (place : ℕ) → bit_of result place ≡ min (bit_of starts.now place) (bit_of starts.now (place + by)) }
+{
+    let mut out = *starts;
+    for number in 0..WORDS {
+        out[number] &= moved(starts, by, number);
+    }
+    out
+}
+
+/// The places where so many set bits begin.
+pub(crate) fn run_starts(words: &[u64; WORDS], count: usize) -> [u64; WORDS]
+    requires { (1 ≤ count) × (count ≤ 640) }
+    ensures { (place : ℕ) → (bit_of result place ≡ 1) ↔ AllSet words.now place count }
+{
+    let mut starts = *words;
+    let mut length = 1;
+    while length < count {
+        let by = length.min(count - length);
+        starts = both(&starts, by);
+        length += by;
+    }
+    starts
+}
+
+/// The first set bit from a place on.
+pub(crate) fn first_from(words: &[u64; WORDS], from: usize) -> Option<usize>
+    ensures some { IfSome result (λ place. (from ≤ place) × (place < 640) × (bit_of words.now place ≡ 1) × NoneSet words.now from place) }
+    ensures none { IfNone result (NoneSet words.now from 640) }
+{
+    let mut at = from;
+    while at < BITS {
+        let rest = words[at / 64] >> (at % 64);
+        if rest != 0 {
+            return Some(at + rest.trailing_zeros() as usize);
+        }
+        at = (at / 64 + 1) * 64;
+    }
+    None
+}
