@@ -1,5 +1,5 @@
 -- What the free chunks weigh after one chunk changed.
-use Rattle.std.proofs.Common.{ℕ, ◌≡◌, ◌+◌, ◌<◌, ◌≤◌, Bool, true, false, cond, sym, ap, ◌∙◌, arith}
+use Rattle.std.proofs.Common.{ℕ, ◌≡◌, ◌+◌, ◌<◌, ◌≤◌, Bool, true, false, cond, ap, arith}
 use Rattle.unit_model.specs.Weights.{below, is_number}
 use Rattle.unit_model.proofs.Weights.{below_same, below_change, below_at, is_number_same}
 use Rattle.chunk_map.specs.Words.{is_free, free_weight, Takes, Frees, Stays}

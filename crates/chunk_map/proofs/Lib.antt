@@ -1,4 +1,8 @@
 pub mod Numbers
+pub mod BitLists
 pub mod FreeChunks
 pub mod OpenSegments
 mod MapSteps
+mod GainLaws
+mod WordChanges
+mod ClaimLaws

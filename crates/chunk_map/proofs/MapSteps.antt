@@ -1,5 +1,5 @@
 -- Each step on the table of a chunk map keeps its rule.
-use Rattle.std.proofs.Common.{ℕ, ◌≡◌, ◌≢◌, ◌+◌, ◌-◌, ◌*◌, ◌/◌, ◌%◌, ◌^◌, ◌<◌, ◌≤◌, ◌==◌, ◌⊎◌, inl, inr, ⊎_elim, zero, suc, replicate, eqb, Bool, true, false, cond, List, [], ◌∷◌, ◌++◌, length, slice_index, set, refl, sym, ap, ◌∙◌, subst, arith, get_or-set_same, get_or-set_other, length-set}
+use Rattle.std.proofs.Common.{ℕ, ◌≡◌, ◌≢◌, ◌+◌, ◌*◌, ◌/◌, ◌%◌, ◌^◌, ◌<◌, ◌≤◌, ◌==◌, inl, inr, ⊎_elim, zero, suc, replicate, eqb, Bool, true, false, cond, List, [], ◌∷◌, length, slice_index, set, refl, sym, ap, ◌∙◌, subst, arith, get_or-set_same, get_or-set_other, length-set}
 use Rattle.std.specs.Prelude.{bit_and, bit_or}
 use Rattle.std.specs.Int.{bit_at, bit_not, w64}
 use Rattle.std.proofs.lemmas.List.{set-get_or, length-replicate, get_or-replicate}
@@ -9,24 +9,24 @@ use mathlib.Core.Option.{none, some, some-injective, some-ne-none}
 use prog.Atomic.{either}
 use lib.ListN.{get_elem?}
 use Rattle.atomic_table.specs.Table.{State, Me, Act, keeps, step, stepped, Valid, carried_after, opening as table_opening, Splits, Joins}
-use Rattle.atomic_table.proofs.Lists.{exchanged, set_else}
+use Rattle.atomic_table.proofs.Lists.{exchanged}
 use Rattle.unit_model.specs.Sharing.{Owned, Holds}
-use Rattle.unit_model.specs.Weights.{weigh, below, is_number, one_if, without_first}
-use Rattle.unit_model.proofs.Sharing.{owned_stays, owned_split, owned_join, owned_moves, owned_here, owned_below}
+use Rattle.unit_model.specs.Weights.{weigh, is_number, one_if, without_first}
+use Rattle.unit_model.proofs.Sharing.{owned_stays, owned_split, owned_join, owned_moves, owned_here}
 use Rattle.unit_model.proofs.Weights.{weigh-without_first, is_number_some}
 use Rattle.chunk_map.specs.declared.view.MapView.{MapView}
 use Rattle.chunk_map.specs.declared.view.MapEvent.{MapEvent}
-use Rattle.chunk_map.specs.declared.view.MapEvent.TheVariants.{SawOpen, SawWord, Missed, Opened, FoundOpen}
+use Rattle.chunk_map.specs.declared.view.MapEvent.TheVariants.{SawOpen, SawWord, Missed, OpenedTo, FoundOpen}
 use Rattle.chunk_map.specs.Parts.{OpenPart}
 use Rattle.chunk_map.specs.Rule.{table_index, word_number, map_words, MapHolds, SeesOpen, SeesWord, TakesBit, FreesBit, OpensOne}
-use Rattle.chunk_map.specs.Views.{held_by, open_noted, empty, after, with_chunk, without_chunk, opening}
-use Rattle.chunk_map.specs.Words.{is_free, free_weight, Takes, Frees, Stays}
-use Rattle.chunk_map.proofs.Numbers.{index_within, number_back, index_some, free_where_one, held_where_zero, word_here, word_there, others_stay, mask_of_one, set_of_one}
+use Rattle.chunk_map.specs.Views.{held_by, open_noted, empty, after, with_chunk, without_chunk}
+use Rattle.chunk_map.specs.Words.{is_free, free_weight, Takes, Frees}
+use Rattle.chunk_map.proofs.Numbers.{index_within, number_back, index_some, free_where_one, held_where_zero, word_here, others_stay, mask_of_one, set_of_one}
 use Rattle.chunk_map.proofs.FreeChunks.{free_taken, free_freed, free_stays, free_all, not_free}
 use Rattle.chunk_map.proofs.OpenSegments.{open_steps, open_splits}
 
 -- a list without one chunk that is in it
-weigh_without : (f : ℕ → ℕ) (chunk : ℕ) (chunks : List ℕ) → 0 < weigh (is_number chunk) chunks → weigh f (without_first (λ other. other == chunk) chunks) + f chunk ≡ weigh f chunks
+pub weigh_without : (f : ℕ → ℕ) (chunk : ℕ) (chunks : List ℕ) → 0 < weigh (is_number chunk) chunks → weigh f (without_first (λ other. other == chunk) chunks) + f chunk ≡ weigh f chunks
 weigh_without f chunk chunks some_chunk = weigh-without_first f (λ other. other == chunk) (f chunk) (λ x is. ap f (is_number_some chunk x (omega (arith, ap one_if is)))) chunks some_chunk
 
 -- what a step has to give: a view and an act that keep the rule, and what is told
@@ -87,11 +87,11 @@ module _ (n count slots id : ℕ) (v : MapView) (carried : List (ℕ × ℕ)) (s
 
   hit : slice_index s.words 0 ≡ count → After n 0 id carried s (count + 1) (OpensOne (step slots 0 count (count + 1) none) (v, carried) (slice_index s.words 0))
   hit is = (
-    after (Opened (count + 1)) v,
+    after (OpenedTo (count + 1)) v,
     keeps,
     tt,
-    changed (count + 1) (Opened (count + 1)) (omega (arith, is)) (omega (arith, more)) (omega arith),
-    (refl, ap (λ (b : Bool). after (cond b (Opened (count + 1)) (FoundOpen (slice_index s.words 0))) v) (sym (eq-eqb (slice_index s.words 0) count is)), bounds.0, bounds.1),
+    changed (count + 1) (OpenedTo (count + 1)) (omega (arith, is)) (omega (arith, more)) (omega arith),
+    (refl, ap (λ (b : Bool). after (cond b (OpenedTo (count + 1)) (FoundOpen (slice_index s.words 0))) v) (sym (eq-eqb (slice_index s.words 0) count is)), bounds.0, bounds.1),
   )
 
   miss : slice_index s.words 0 ≢ count → After n 0 id carried s (slice_index s.words 0) (OpensOne (step slots 0 count (count + 1) none) (v, carried) (slice_index s.words 0))
@@ -100,7 +100,7 @@ module _ (n count slots id : ℕ) (v : MapView) (carried : List (ℕ × ℕ)) (s
     keeps,
     tt,
     changed (slice_index s.words 0) (FoundOpen (slice_index s.words 0)) (omega arith) holds.opened.most (omega arith),
-    (refl, ap (λ (b : Bool). after (cond b (Opened (count + 1)) (FoundOpen (slice_index s.words 0))) v) (sym (ne_eqb (slice_index s.words 0) count ne)), bounds.0, bounds.1),
+    (refl, ap (λ (b : Bool). after (cond b (OpenedTo (count + 1)) (FoundOpen (slice_index s.words 0))) v) (sym (ne_eqb (slice_index s.words 0) count ne)), bounds.0, bounds.1),
   )
 
   pub opens_one : After n 0 id carried s (either (eqb (slice_index s.words 0) count) (count + 1) (slice_index s.words 0)) (OpensOne (step slots 0 count (count + 1) none) (v, carried) (slice_index s.words 0))
@@ -159,8 +159,8 @@ module _ (n number bit slots id : ℕ) (v : MapView) (carried : List (ℕ × ℕ
         keeps,
         tt,
         kept (bit_and word mask) (with_chunk chunk v) refl
-        (λ c below_n above free. others_clear c (λ is. absurd (omega (arith, is, above, within, opened, holds.opened.seen id v at))) ∙ free)
-        (λ f. omega (arith, free_taken (640 * n) (map_words s.words) (map_words (set s.words (table_index number) (bit_and word mask))) chunk chunk_below takes f)),
+            (λ c below_n above free. others_clear c (λ is. absurd (omega (arith, is, above, within, opened, holds.opened.seen id v at))) ∙ free)
+            (λ f. omega (arith, free_taken (640 * n) (map_words s.words) (map_words (set s.words (table_index number) (bit_and word mask))) chunk chunk_below takes f)),
         (refl, λ b below_64 masks. let same : b ≡ bit = mask_of_one bit b within below_64 masks in inl (ap (bit_at word) same ∙ one, ap (λ c. with_chunk c v) (number_told b same))),
       )
 
@@ -174,8 +174,8 @@ module _ (n number bit slots id : ℕ) (v : MapView) (carried : List (ℕ × ℕ
         keeps,
         tt,
         kept (bit_and word mask) (after (Missed chunk) v) refl
-        (λ c below_n above free. stays c ∙ free)
-        (λ f. omega (arith, free_stays (640 * n) (map_words s.words) (map_words (set s.words (table_index number) (bit_and word mask))) (λ c below_n. stays c) f)),
+            (λ c below_n above free. stays c ∙ free)
+            (λ f. omega (arith, free_stays (640 * n) (map_words s.words) (map_words (set s.words (table_index number) (bit_and word mask))) (λ c below_n. stays c) f)),
         (refl, λ b below_64 masks. let same : b ≡ bit = mask_of_one bit b within below_64 masks in inr (ap (bit_at word) same ∙ none_set, ap (λ c. after (Missed c) v) (number_told b same))),
       )
 
@@ -202,8 +202,8 @@ module _ (n number bit slots id : ℕ) (v : MapView) (carried : List (ℕ × ℕ
         keeps,
         tt,
         kept (bit_or word one_bit) (without_chunk chunk v) refl
-        (λ c below_n above free. ⊎_elim (λ is. ap (is_free (map_words (set s.words (table_index number) (bit_or word one_bit)))) is ∙ now) (λ ne. others_set c ne ∙ free) (cases_eq c chunk))
-        (λ f. omega (arith, free_freed (640 * n) (map_words s.words) (map_words (set s.words (table_index number) (bit_or word one_bit))) chunk chunk_below frees f, weigh_without f chunk v.held mine)),
+            (λ c below_n above free. ⊎_elim (λ is. ap (is_free (map_words (set s.words (table_index number) (bit_or word one_bit)))) is ∙ now) (λ ne. others_set c ne ∙ free) (cases_eq c chunk))
+            (λ f. omega (arith, free_freed (640 * n) (map_words s.words) (map_words (set s.words (table_index number) (bit_or word one_bit))) chunk chunk_below frees f, weigh_without f chunk v.held mine)),
         (refl, λ b below_64 masks. ap (λ c. without_chunk c v) (number_told b (set_of_one bit b within below_64 masks))),
       )
 

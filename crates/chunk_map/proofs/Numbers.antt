@@ -1,7 +1,7 @@
 -- Where words stand in a table, and single bits of words.
-use Rattle.std.proofs.Common.{ℕ, ◌≡◌, ◌≢◌, ◌+◌, ◌-◌, ◌*◌, ◌/◌, ◌%◌, ◌^◌, ◌<◌, ◌≤◌, ◌==◌, ◌⊎◌, inl, inr, Bool, true, false, List, set, slice_index, length, refl, sym, ap, ◌∙◌, subst, arith, get_or-set_same, get_or-set_other}
+use Rattle.std.proofs.Common.{ℕ, ◌≡◌, ◌≢◌, ◌+◌, ◌*◌, ◌/◌, ◌%◌, ◌^◌, ◌<◌, ◌==◌, inl, inr, true, false, List, set, length, sym, ap, ◌∙◌, arith, get_or-set_same, get_or-set_other}
 use Rattle.std.proofs.lemmas.Bool.{eq-eqb, ne_eqb, cases_eq}
-use Rattle.std.proofs.lemmas.Nat.Bits.{bit_at-lt, bit_at-pow_same, bit_at-pow_other, bit_at_not}
+use Rattle.std.proofs.lemmas.Nat.Bits.{bit_at-pow_same, bit_at-pow_other, bit_at_not}
 use Rattle.std.proofs.lemmas.Nat.{one_shl, pow_below}
 use Rattle.std.specs.Int.{bit_at, bit_not, w64}
 use Rattle.chunk_map.specs.Rule.{table_index, word_number, map_words}
@@ -49,11 +49,11 @@ pub others_stay : (words : List ℕ) (number bit new : ℕ) → table_index numb
 others_stay words number bit new lt bits other ne =
     elim (cases_eq (other / 64) number) [
       | inl same ↦
-        let apart : other % 64 ≢ bit = λ is. ne (omega (arith, same, is)) in
-        ap (λ k. bit_at (map_words (set words (table_index number) new) k) (other % 64) == 1) same
-        ∙ ap (λ x. bit_at x (other % 64) == 1) (word_here words number new lt)
-        ∙ ap (λ d. d == 1) (bits (other % 64) (omega arith) apart)
-        ∙ ap (λ k. bit_at (map_words words k) (other % 64) == 1) (sym same)
+          let apart : other % 64 ≢ bit = λ is. ne (omega (arith, same, is)) in
+          ap (λ k. bit_at (map_words (set words (table_index number) new) k) (other % 64) == 1) same
+          ∙ ap (λ x. bit_at x (other % 64) == 1) (word_here words number new lt)
+          ∙ ap (λ d. d == 1) (bits (other % 64) (omega arith) apart)
+          ∙ ap (λ k. bit_at (map_words words k) (other % 64) == 1) (sym same)
       | inr differs ↦ ap (λ x. bit_at x (other % 64) == 1) (word_there words number (other / 64) new differs)
     ]
 
@@ -64,10 +64,10 @@ mask_of_one bit other lt lt' same =
     elim (cases_eq other bit) [
       | inl is ↦ is
       | inr ne ↦
-        let mine = bit_at_not w64 (2 ^ bit) bit (pow_below bit 64 lt) lt in
-        let theirs = bit_at_not w64 (2 ^ other) bit (pow_below other 64 lt') lt in
-        let masks : bit_not w64 (2 ^ bit) ≡ bit_not w64 (2 ^ other) = ap (bit_not w64) (sym (one_shl bit 64 lt)) ∙ same ∙ ap (bit_not w64) (one_shl other 64 lt') in
-        absurd (omega (arith, mine, theirs, ap (λ x. bit_at x bit) masks, bit_at-pow_same bit, bit_at-pow_other other bit (λ e. ne (sym e))))
+          let mine = bit_at_not w64 (2 ^ bit) bit (pow_below bit 64 lt) lt in
+          let theirs = bit_at_not w64 (2 ^ other) bit (pow_below other 64 lt') lt in
+          let masks : bit_not w64 (2 ^ bit) ≡ bit_not w64 (2 ^ other) = ap (bit_not w64) (sym (one_shl bit 64 lt)) ∙ same ∙ ap (bit_not w64) (one_shl other 64 lt') in
+          absurd (omega (arith, mine, theirs, ap (λ x. bit_at x bit) masks, bit_at-pow_same bit, bit_at-pow_other other bit (λ e. ne (sym e))))
     ]
 
 pub set_of_one : (bit other : ℕ) → bit < 64 → other < 64 → 1 * 2 ^ bit % 2 ^ 64 ≡ 1 * 2 ^ other % 2 ^ 64 → other ≡ bit
@@ -75,6 +75,6 @@ set_of_one bit other lt lt' same =
     elim (cases_eq other bit) [
       | inl is ↦ is
       | inr ne ↦
-        let powers : 2 ^ bit ≡ 2 ^ other = sym (one_shl bit 64 lt) ∙ same ∙ one_shl other 64 lt' in
-        absurd (omega (arith, ap (λ x. bit_at x bit) powers, bit_at-pow_same bit, bit_at-pow_other other bit (λ e. ne (sym e))))
+          let powers : 2 ^ bit ≡ 2 ^ other = sym (one_shl bit 64 lt) ∙ same ∙ one_shl other 64 lt' in
+          absurd (omega (arith, ap (λ x. bit_at x bit) powers, bit_at-pow_same bit, bit_at-pow_other other bit (λ e. ne (sym e))))
     ]

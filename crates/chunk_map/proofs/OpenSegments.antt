@@ -1,8 +1,6 @@
 -- What steps, splits and joins do to the part of a rule that speaks of open segments.
-use Rattle.std.proofs.Common.{ℕ, ◌≡◌, ◌≢◌, ◌*◌, ◌/◌, ◌≤◌, ◌<◌, ◌⊎◌, inl, inr, ⊎_elim, true, List, [], ◌∷◌, ◌++◌, set, subst, arith}
+use Rattle.std.proofs.Common.{ℕ, ◌≡◌, ◌*◌, ◌/◌, ◌≤◌, ◌<◌, ⊎_elim, true, List, [], ◌∷◌, ◌++◌, set, subst, arith}
 use Rattle.atomic_table.proofs.Lists.{at_set, at_snoc}
-use mathlib.Core.Option.{some}
-use lib.ListN.{get_elem?}
 use Rattle.chunk_map.specs.Parts.{OpenPart}
 use Rattle.chunk_map.specs.Words.{is_free}
 
@@ -14,9 +12,9 @@ open_steps {V} segments noted opened opened' word word' views k u rises most min
   least = omega (arith, rises, old.least);
   most = most;
   seen = λ j w there. ⊎_elim
-    (λ t. subst (λ (y : V). noted y ≤ opened') t.1 mine)
-    (λ t. omega (arith, rises, old.seen j w t.1))
-    (at_set views k j u w there);
+      (λ t. subst (λ (y : V). noted y ≤ opened') t.1 mine)
+      (λ t. omega (arith, rises, old.seen j w t.1))
+      (at_set views k j u w there);
   closed = λ chunk lt above. closed chunk lt above (old.closed chunk lt (omega (arith, rises, above)));
 }
 
@@ -27,8 +25,8 @@ open_splits {V} segments noted opened word views k left right mine theirs old = 
   least = old.least;
   most = old.most;
   seen = λ j w there. ⊎_elim
-    (λ before. (open_steps segments noted opened opened word word views k left (omega arith) old.most mine (λ chunk lt above free. free) old).seen j w before)
-    (λ is. subst (λ (y : V). noted y ≤ opened) is theirs)
-    (at_snoc (set views k left) right w j there);
+      (λ before. (open_steps segments noted opened opened word word views k left (omega arith) old.most mine (λ chunk lt above free. free) old).seen j w before)
+      (λ is. subst (λ (y : V). noted y ≤ opened) is theirs)
+      (at_snoc (set views k left) right w j there);
   closed = old.closed;
 }

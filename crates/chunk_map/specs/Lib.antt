@@ -4,5 +4,7 @@ pub mod Looks
 pub mod Views
 pub mod Runs
 pub mod Search
+pub mod Gains
 pub mod Rule
 pub mod Seats
+pub mod Claims

@@ -3,7 +3,7 @@
 use Rattle.std.specs.Prelude.{ℕ, ◌/◌, ◌%◌, ◌≡◌, ◌==◌, ◌||◌, Bool, true, false, if◌then◌else◌, List, [], ◌∷◌}
 use Rattle.std.specs.Int.{bit_at}
 use Rattle.chunk_map.specs.declared.view.MapEvent.{MapEvent}
-use Rattle.chunk_map.specs.declared.view.MapEvent.TheVariants.{SawOpen, SawWord, Gained, Missed, Released, Opened, FoundOpen}
+use Rattle.chunk_map.specs.declared.view.MapEvent.TheVariants.{SawOpen, SawWord, Gained, Missed, Released, OpenedTo, FoundOpen}
 
 -- the newest number of open segments, which is at least 1
 abbrev pub open_seen : List MapEvent → ℕ
@@ -13,7 +13,7 @@ open_seen (SawWord number found ∷ events) = open_seen events
 open_seen (Gained chunk ∷ events) = open_seen events
 open_seen (Missed chunk ∷ events) = open_seen events
 open_seen (Released chunk ∷ events) = open_seen events
-open_seen (Opened count ∷ events) = count
+open_seen (OpenedTo count ∷ events) = count
 open_seen (FoundOpen count ∷ events) = count
 
 -- the search gained the chunk
@@ -24,7 +24,7 @@ was_gained (SawWord number found ∷ events) chunk = was_gained events chunk
 was_gained (Gained other ∷ events) chunk = if other == chunk then true else was_gained events chunk
 was_gained (Missed other ∷ events) chunk = was_gained events chunk
 was_gained (Released other ∷ events) chunk = was_gained events chunk
-was_gained (Opened count ∷ events) chunk = was_gained events chunk
+was_gained (OpenedTo count ∷ events) chunk = was_gained events chunk
 was_gained (FoundOpen count ∷ events) chunk = was_gained events chunk
 
 -- The search's last look at the chunk found it free. A look is a load of the chunk's word, or a try to take its bit. A chunk
@@ -36,7 +36,7 @@ seen_free (SawWord number found ∷ events) chunk = if chunk / 64 == number then
 seen_free (Gained other ∷ events) chunk = if other == chunk then true else seen_free events chunk
 seen_free (Missed other ∷ events) chunk = if other == chunk then was_gained events chunk else seen_free events chunk
 seen_free (Released other ∷ events) chunk = seen_free events chunk
-seen_free (Opened count ∷ events) chunk = seen_free events chunk
+seen_free (OpenedTo count ∷ events) chunk = seen_free events chunk
 seen_free (FoundOpen count ∷ events) chunk = seen_free events chunk
 
 -- The events are those before a search, then its load of the open word, which gave this number, and then the search's others,
@@ -48,5 +48,5 @@ Searched opened before (SawWord number found ∷ events) = Searched opened befor
 Searched opened before (Gained chunk ∷ events) = Searched opened before events
 Searched opened before (Missed chunk ∷ events) = Searched opened before events
 Searched opened before (Released chunk ∷ events) = Searched opened before events
-Searched opened before (Opened count ∷ events) = Searched opened before events
+Searched opened before (OpenedTo count ∷ events) = Searched opened before events
 Searched opened before (FoundOpen count ∷ events) = Searched opened before events

@@ -1,5 +1,5 @@
 -- Runs in a map's chunks, which are numbered over all segments.
-use Rattle.std.specs.Prelude.{ℕ, ◌+◌, ◌*◌, ◌≡◌, ◌≤◌, ◌<◌, ◌⊎◌, Bool, true, List}
+use Rattle.std.specs.Prelude.{ℕ, ◌+◌, ◌*◌, ◌≡◌, ◌≤◌, ◌<◌, Bool, true, List}
 use Rattle.std.specs.List.{range_with_len}
 use Rattle.unit_model.specs.Runs.{chunks_for}
 use Rattle.unit_model.specs.declared.runs.Run.{Run}
@@ -12,7 +12,10 @@ run_chunks run = range_with_len (640 * run.segment + run.chunk) (chunks_for run.
 abbrev pub AreFree : (ℕ → Bool) → ℕ → ℕ → ℕ → Type 0
 AreFree free n segment first = (first + n ≤ 640) × ((i : ℕ) → i < n → free (640 * segment + (first + i)) ≡ true)
 
+-- from no chunk of the segment before this one on are n free
+abbrev pub NoneBelow : (ℕ → Bool) → ℕ → ℕ → ℕ → Type 0
+NoneBelow free n segment first = (chunk : ℕ) → chunk < first → AreFree free n segment chunk → ⊥
+
 -- before this place, by segment and then by chunk, there are nowhere n free ones
 abbrev pub IsLowest : (ℕ → Bool) → ℕ → ℕ → ℕ → Type 0
-IsLowest free n segment first =
-    (s c : ℕ) → (s < segment) ⊎ ((s ≡ segment) × (c < first)) → AreFree free n s c → ⊥
+IsLowest free n segment first = ((earlier : ℕ) → earlier < segment → NoneBelow free n earlier 640) × NoneBelow free n segment first

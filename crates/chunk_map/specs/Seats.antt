@@ -1,7 +1,6 @@
 -- What contracts say of a seat of a chunk map.
-use Rattle.std.specs.Prelude.{ℕ, ◌≡◌, ◌<◌, slice_index}
+use Rattle.std.specs.Prelude.{ℕ, ◌≡◌, ◌<◌, List, slice_index}
 use Rattle.unit_model.specs.Sharing.{Holds}
-use Rattle.unit_model.specs.declared.runs.Seen.{Seen}
 use Rattle.chunk_map.specs.Looks.{seen_free}
 use Rattle.chunk_map.specs.Views.{held_by}
 use Rattle.chunk_map.specs.Words.{is_free}
@@ -21,6 +20,6 @@ BelongsTo seat map = (seat.seat.table_id ≡ map.table.shared.table_id) × ((kno
 abbrev pub HoldsChunk : MapSeat → ℕ → Type 0
 HoldsChunk seat chunk = Holds held_by chunk (knows seat)
 
--- the looks are those of the search: a bit is set exactly where its chunk was last seen free
-abbrev pub Shows : Seen → MapView → Type 0
-Shows seen v = (chunk : ℕ) → chunk < 5120 → is_free (slice_index seen.words) chunk ≡ seen_free v.log chunk
+-- the words are the looks of the search: a bit is set exactly where its chunk was last seen free
+abbrev pub Shows : List ℕ → MapView → Type 0
+Shows words v = (chunk : ℕ) → chunk < 5120 → is_free (slice_index words) chunk ≡ seen_free v.log chunk

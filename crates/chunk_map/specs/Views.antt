@@ -1,9 +1,9 @@
 -- What a seat knows: the chunks that it holds, by their numbers over all segments, and what it did, newest first.
-use Rattle.std.specs.Prelude.{ℕ, ◌==◌, List, [], ◌∷◌, cond}
+use Rattle.std.specs.Prelude.{ℕ, ◌==◌, [], ◌∷◌, cond}
 use Rattle.unit_model.specs.Weights.{weigh, without_first}
 use Rattle.chunk_map.specs.Looks.{open_seen}
 use Rattle.chunk_map.specs.declared.view.MapEvent.{MapEvent}
-use Rattle.chunk_map.specs.declared.view.MapEvent.TheVariants.{Gained, Released, Opened, FoundOpen}
+use Rattle.chunk_map.specs.declared.view.MapEvent.TheVariants.{Gained, Released, OpenedTo, FoundOpen}
 use Rattle.chunk_map.specs.declared.view.MapView.{MapView}
 
 -- what the chunks held weigh
@@ -31,4 +31,4 @@ without_chunk chunk v = record { segments = v.segments; held = without_first (λ
 
 -- what an exchange of the open word tells that would take it from one number to another, and found this one
 abbrev pub opening : ℕ → ℕ → ℕ → MapEvent
-opening old new found = cond (found == old) (Opened new) (FoundOpen found)
+opening old new found = cond (found == old) (OpenedTo new) (FoundOpen found)

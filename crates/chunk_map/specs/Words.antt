@@ -1,6 +1,6 @@
 -- The words of a chunk map as plain numbers. `word k` is word k of the map, and its bit b is chunk 64 * k + b, where set means
 -- free. A segment has ten words, so 640 chunks. Only chunks below n count.
-use Rattle.std.specs.Prelude.{ℕ, ◌*◌, ◌/◌, ◌%◌, ◌≡◌, ◌≢◌, ◌<◌, ◌==◌, Bool, true, false, cond}
+use Rattle.std.specs.Prelude.{ℕ, ◌/◌, ◌%◌, ◌≡◌, ◌≢◌, ◌<◌, ◌==◌, Bool, true, false, cond}
 use Rattle.std.specs.Int.{bit_at}
 use Rattle.unit_model.specs.Weights.{below}
 

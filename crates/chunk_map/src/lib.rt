@@ -5,11 +5,16 @@
 //! with more words in it can be ruled by the same parts.
 #![tactic(auto)]
 
+mod claim;
 mod map;
 mod search;
 mod seat;
 mod view;
 
+pub use claim::{Claim, Opened};
 pub use map::ChunkMap;
 pub use seat::MapSeat;
 pub use view::{MapEvent, MapView};
+
+#[cfg(test)]
+mod tests;

@@ -83,7 +83,7 @@ impl Join<MapView> for Together {
 #[derive(Drop)]
 pub struct ChunkMap {
     table: Table<u8, MapView, u32, MapRule, Global>,
-    segments: u32,
+    pub(crate) segments: u32,
     ghost sized: { (table.shared.key ≡ segments) × (table.shared.table_id.words ≡ 16 * (segments + 1)) × (1 ≤ segments) × (segments ≤ 8) },
 }
 
@@ -133,7 +133,7 @@ impl ChunkMap {
     }
 
     // How many segments are open.
-    fn see_open(&self, seat: &mut MapSeat) -> u64
+    pub(crate) fn see_open(&self, seat: &mut MapSeat) -> u64
         requires own { BelongsTo seat.old self.now }
         ensures own { BelongsTo seat.new self.now }
         ensures count { (1 ≤ result) × (result ≤ self.now.segments) }
@@ -145,7 +145,7 @@ impl ChunkMap {
     }
 
     // A word of the map.
-    fn see_word(&self, seat: &mut MapSeat, number: usize) -> u64
+    pub(crate) fn see_word(&self, seat: &mut MapSeat, number: usize) -> u64
         requires own { BelongsTo seat.old self.now }
         requires number { number < 10 * self.now.segments }
         ensures own { BelongsTo seat.new self.now }
@@ -157,7 +157,7 @@ impl ChunkMap {
     }
 
     // Clears a bit. The chunk is the seat's where the bit was set.
-    fn take_bit(&self, seat: &mut MapSeat, number: usize, bit: usize) -> bool
+    pub(crate) fn take_bit(&self, seat: &mut MapSeat, number: usize, bit: usize) -> bool
         requires own { BelongsTo seat.old self.now }
         requires number { number < 10 * self.now.segments }
         requires bit { bit < 64 }
@@ -168,12 +168,16 @@ impl ChunkMap {
     {
         let table = &self.table;
         let shared = &table.shared;
-        let found = shared.fetch_and::<Taking>(&mut seat.seat, 16 * (number / 10 + 1) + number % 10, !(1u64 << bit));
+        let found = shared.fetch_and::<Taking>(
+            &mut seat.seat,
+            16 * (number / 10 + 1) + number % 10,
+            !(1u64 << bit),
+        );
         (found >> bit) & 1 == 1
     }
 
     // Sets the bit of a chunk that the seat holds.
-    fn free_bit(&self, seat: &mut MapSeat, number: usize, bit: usize)
+    pub(crate) fn free_bit(&self, seat: &mut MapSeat, number: usize, bit: usize)
         requires own { BelongsTo seat.old self.now }
         requires bit { bit < 64 }
         requires held { HoldsChunk seat.old (64 * number + bit) }
@@ -182,11 +186,15 @@ impl ChunkMap {
     {
         let table = &self.table;
         let shared = &table.shared;
-        shared.fetch_or::<Freeing>(&mut seat.seat, 16 * (number / 10 + 1) + number % 10, 1u64 << bit);
+        shared.fetch_or::<Freeing>(
+            &mut seat.seat,
+            16 * (number / 10 + 1) + number % 10,
+            1u64 << bit,
+        );
     }
 
     // Takes the number of open segments from one to the next, where it is still that one.
-    fn exchange_open(&self, seat: &mut MapSeat, count: u64) -> u64
+    pub(crate) fn exchange_open(&self, seat: &mut MapSeat, count: u64) -> u64
         requires own { BelongsTo seat.old self.now }
         requires count { (1 ≤ count) × (count < self.now.segments) }
         ensures own { BelongsTo seat.new self.now }

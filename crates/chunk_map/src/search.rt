@@ -1,5 +1,5 @@
 //! Finding runs of set bits in the ten words of a segment, by operations on whole words.
-ghost use Rattle.std.specs.Prelude.{◌≡◌, ◌↔◌, ◌+◌, ◌*◌, ◌<◌, ◌≤◌, ℕ, min, IfSome, IfNone};
+ghost use Rattle.std.specs.Prelude.{◌≡◌, ◌↔◌, ◌+◌, ◌*◌, ◌<◌, ◌≤◌, ℕ, min, slice_index, IfSome, IfNone};
 ghost use Rattle.std.specs.Int.{bit_at};
 ghost use Rattle.chunk_map.specs.Search.{bit_of, AllSet, NoneSet};
 
@@ -7,26 +7,24 @@ const WORDS: usize = 10;
 
 const BITS: usize = 640;
 
+// A word, or 0 behind the last one.
+fn word_at(words: &[u64; WORDS], number: usize) -> u64
+    ensures { result ≡ slice_index words.now number }
+{
+    if number < WORDS { words[number] } else { 0 }
+}
+
 // Word `number` of the words moved so many places down.
 fn moved(words: &[u64; WORDS], by: usize, number: usize) -> u64
     requires { (number < 10) × (by < 640) }
     ensures { (bit : ℕ) → bit < 64 → bit_at result bit ≡ bit_of words.now (64 * number + bit + by) }
 {
-    let from = number + by / 64;
-    let low = if from < WORDS {
-        words[from]
-    } else {
-        0
-    };
+    let low = word_at(words, number + by / 64);
     let shift = by % 64;
     if shift == 0 {
         return low;
     }
-    let high = if from + 1 < WORDS {
-        words[from + 1]
-    } else {
-        0
-    };
+    let high = word_at(words, number + by / 64 + 1);
     (low >> shift) | (high << (64 - shift))
 }
 
@@ -64,7 +62,8 @@ pub(crate) fn first_from(words: &[u64; WORDS], from: usize) -> Option<usize>
 {
     let mut at = from;
     while at < BITS {
-        let rest = words[at / 64] >> (at % 64);
+        let word = word_at(words, at / 64);
+        let rest = word >> (at % 64);
         if rest != 0 {
             return Some(at + rest.trailing_zeros() as usize);
         }

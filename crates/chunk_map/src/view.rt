@@ -14,7 +14,7 @@ pub enum MapEvent {
     /// The chunk was given back.
     Released(u32),
     /// The seat's exchange made the number of open segments this one.
-    Opened(u64),
+    OpenedTo(u64),
     /// The seat's exchange found that so many segments were open.
     FoundOpen(u64),
 }

@@ -1,4 +1,4 @@
-use Rattle.std.proofs.Common.{◌<◌, ◌≡◌, ◌∙◌, sym, refl, arith}
+use Rattle.std.proofs.Common.{◌<◌, ◌∙◌, sym, arith}
 use Rattle.chunk_map.proofs.MapSteps.{opens_one}
 use Rattle.chunk_map.proofs.map.ChunkMap.exchange_open.Goals as goal
 

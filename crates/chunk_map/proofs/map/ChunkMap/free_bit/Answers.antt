@@ -1,7 +1,6 @@
-use Rattle.std.proofs.Common.{ℕ, refl, ap, ◌<◌, ◌*◌, ◌+◌, ◌≡◌, ◌∙◌, sym, subst, arith}
+use Rattle.std.proofs.Common.{refl, ap, ◌<◌, ◌*◌, ◌+◌, ◌∙◌, subst, arith}
 use Rattle.chunk_map.proofs.MapSteps.{frees_bit, held_before}
 use Rattle.chunk_map.proofs.map.ChunkMap.free_bit.Goals as goal
-
 use Rattle.chunk_map.proofs.Numbers.{index_within}
 use Rattle.unit_model.specs.Sharing.{Holds}
 use Rattle.chunk_map.specs.Views.{held_by}

@@ -1,4 +1,4 @@
-use Rattle.std.proofs.Common.{ℕ, ◌≡◌, ◌<◌, ◌+◌, ◌*◌, ◌∙◌, List, set, replicate, ap, sym, subst, length, arith}
+use Rattle.std.proofs.Common.{ℕ, ◌∙◌, List, set, ap}
 use Rattle.chunk_map.proofs.MapSteps.{opens}
 use Rattle.chunk_map.proofs.map.ChunkMap.open.Goals as goal
 

@@ -1,4 +1,4 @@
-use Rattle.std.proofs.Common.{◌<◌, ◌≡◌, ◌∙◌, sym, refl, arith}
+use Rattle.std.proofs.Common.{◌<◌, ◌∙◌, sym, refl, arith}
 use Rattle.chunk_map.proofs.MapSteps.{sees_open}
 use Rattle.chunk_map.proofs.map.ChunkMap.see_open.Goals as goal
 

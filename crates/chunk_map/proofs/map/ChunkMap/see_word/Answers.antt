@@ -1,8 +1,7 @@
-use Rattle.std.proofs.Common.{ℕ, ◌<◌, ◌*◌, ◌+◌, ◌≡◌, ◌∙◌, sym, subst, arith}
+use Rattle.std.proofs.Common.{arith}
 use Rattle.chunk_map.proofs.MapSteps.{sees_word}
 use Rattle.chunk_map.proofs.map.ChunkMap.see_word.Goals as goal
-
-use Rattle.chunk_map.proofs.Numbers.{index_within, number_back}
+use Rattle.chunk_map.proofs.Numbers.{index_within}
 use Rattle.chunk_map.specs.Rule.{table_index}
 
 pub load-requires : goal.load-requires

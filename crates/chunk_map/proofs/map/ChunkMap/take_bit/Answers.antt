@@ -1,7 +1,6 @@
-use Rattle.std.proofs.Common.{ℕ, ◌<◌, ◌*◌, ◌+◌, ◌≡◌, ◌∙◌, sym, subst, arith}
+use Rattle.std.proofs.Common.{arith}
 use Rattle.chunk_map.proofs.MapSteps.{takes_bit}
 use Rattle.chunk_map.proofs.map.ChunkMap.take_bit.Goals as goal
-
 use Rattle.chunk_map.proofs.Numbers.{index_within}
 
 pub fetch_and-found-requires : goal.fetch_and-found-requires

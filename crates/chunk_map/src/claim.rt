@@ -1,0 +1,245 @@
+//! Claiming runs of chunks, and giving them back.
+ghost use Rattle.std.specs.Prelude.{◌≡◌, ◌≢◌, ◌⊎◌, ◌+◌, ◌*◌, ◌/◌, ◌<◌, ◌≤◌, ◌==◌, ℕ, ◌-◌, List, length, slice_index, true, false, IfSome, IfNone, IsTrue, IsFalse};
+ghost use Rattle.unit_model.specs.Runs.{chunks_for};
+ghost use Rattle.chunk_map.specs.Words.{is_free};
+
+use crate::map::ChunkMap;
+use crate::search::{first_from, run_starts};
+use crate::seat::MapSeat;
+use unit_model::{Run, Seen};
+
+/// What a claim gave.
+#[derive(Debug, Drop)]
+pub enum Claim {
+    /// The seat holds the run's chunks.
+    Run(Run),
+    /// The looks at all chunks of the open segments found no such run.
+    Full(Seen),
+}
+
+/// What an attempt to open a segment did.
+#[derive(Clone, Copy, Debug, PartialEq, Eq, Drop)]
+pub enum Opened {
+    /// This call's exchange took the number of open segments from the one before to this one.
+    Yes(u32),
+    /// So many segments, which is all of them, were open.
+    AllOpen(u32),
+    /// This call's exchange found this number, another one than its load.
+    Other(u32),
+}
+
+// How many chunks so many bytes need.
+fn chunk_count(size: u32) -> usize
+    requires { (1 ≤ size) × (size ≤ 10485760) }
+    ensures { (result ≡ chunks_for size) × (1 ≤ result) × (result ≤ 640) }
+{
+    size.div_ceil(16384) as usize
+}
+
+// No chunk was found free.
+fn unseen() -> [u64; 80]
+    ensures { (number : ℕ) → slice_index result number ≡ 0 }
+{
+    [0; 80]
+}
+
+// Notes that a chunk isn't free.
+fn clear(words: &mut [u64; 80], chunk: usize)
+    requires { chunk < 5120 }
+    ensures here { is_free (slice_index words.new) chunk ≡ false }
+    ensures others { (other : ℕ) → other ≢ chunk → is_free (slice_index words.new) other ≡ is_free (slice_index words.old) other }
+    ensures words { (number : ℕ) → number ≢ chunk / 64 → slice_index words.new number ≡ slice_index words.old number }
+{
+    words[chunk / 64] &= !(1u64 << (chunk % 64));
+}
+
+impl ChunkMap {
+    ghost use Rattle.std.specs.Int.{bit_at};
+    ghost use Rattle.unit_model.specs.Runs.{HasNoRun};
+    ghost use Rattle.chunk_map.specs.Claims.{IfRun, IfFull};
+    ghost use Rattle.unit_model.specs.Weights.{weigh};
+    ghost use Rattle.chunk_map.specs.Gains.{gained, given_back, tried, SameSearch};
+    ghost use Rattle.chunk_map.specs.Looks.{open_seen, was_gained, seen_free, Searched};
+    ghost use Rattle.chunk_map.specs.Runs.{run_chunks, AreFree, NoneBelow, IsLowest};
+    ghost use Rattle.std.specs.List.{range_with_len};
+    ghost use Rattle.chunk_map.specs.Search.{bit_of};
+    ghost use Rattle.chunk_map.specs.Seats.{BelongsTo, HoldsChunk, Shows, knows};
+    ghost use Rattle.chunk_map.specs.Views.{after, with_chunk, without_chunk};
+    ghost use Rattle.chunk_map.specs.Words.{is_free};
+    ghost use Rattle.chunk_map.specs.declared.view.MapEvent.TheVariants.{Missed, SawOpen, FoundOpen, OpenedTo};
+
+    // Tries to gain a chunk.
+    fn take(&self, seat: &mut MapSeat, chunk: usize) -> bool
+        requires own { BelongsTo seat.old self.now }
+        requires chunk { chunk < 640 * self.now.segments }
+        requires open { chunk < 640 * open_seen (knows seat.old).log }
+        ensures own { BelongsTo seat.new self.now }
+        ensures gained { IsTrue result → knows seat.new ≡ with_chunk chunk (knows seat.old) }
+        ensures missed { IsFalse result → knows seat.new ≡ after (Missed chunk) (knows seat.old) }
+    {
+        self.take_bit(seat, chunk / 64, chunk % 64)
+    }
+
+    // Gives chunks back, the last one first.
+    fn give_back(&self, seat: &mut MapSeat, first: usize, count: usize)
+        requires own { BelongsTo seat.old self.now }
+        requires held { (i : ℕ) → i < count → HoldsChunk seat.old (first + i) }
+        ensures own { BelongsTo seat.new self.now }
+        ensures view { knows seat.new ≡ given_back first count (knows seat.old) }
+    {
+        let mut left = count;
+        while left > 0 {
+            left -= 1;
+            let chunk = first + left;
+            self.free_bit(seat, chunk / 64, chunk % 64);
+        }
+    }
+
+    // Gains so many chunks, or as many of them as come before the first one that isn't free, which it gives back.
+    fn gain(&self, seat: &mut MapSeat, first: usize, count: usize) -> usize
+        requires own { BelongsTo seat.old self.now }
+        requires within { first + count ≤ 640 * self.now.segments }
+        requires open { first + count ≤ 640 * open_seen (knows seat.old).log }
+        ensures own { BelongsTo seat.new self.now }
+        ensures most { result ≤ count }
+        ensures all { result ≡ count → knows seat.new ≡ gained first count (knows seat.old) }
+        ensures fewer { result < count → knows seat.new ≡ tried first result (knows seat.old) }
+    {
+        for i in 0..count {
+            if !self.take(seat, first + i) {
+                self.give_back(seat, first, i);
+                return i;
+            }
+        }
+        count
+    }
+
+    // Looks at the words of a segment that the search hasn't looked at yet.
+    fn look(&self, seat: &mut MapSeat, seen: &mut [u64; 80], segment: usize) -> [u64; 10]
+        requires own { BelongsTo seat.old self.now }
+        requires segment { segment < self.now.segments }
+        requires fresh { (chunk : ℕ) → 640 * segment ≤ chunk → was_gained (knows seat.old).log chunk ≡ false }
+        requires shows { Shows seen.old (knows seat.old) }
+        ensures own { BelongsTo seat.new self.now }
+        ensures shows { Shows seen.new (knows seat.new) }
+        ensures others { (number : ℕ) → number / 10 ≢ segment → slice_index seen.new number ≡ slice_index seen.old number }
+        ensures long { length result ≡ 10 }
+        ensures words { (number : ℕ) → number < 10 → slice_index result number ≡ slice_index seen.new (10 * segment + number) }
+        ensures search { SameSearch (knows seat.old) (knows seat.new) }
+        ensures held { (knows seat.new).held ≡ (knows seat.old).held }
+        ensures gained { (chunk : ℕ) → was_gained (knows seat.new).log chunk ≡ was_gained (knows seat.old).log chunk }
+    {
+        let mut words = [0u64; 10];
+        for number in 0..10 {
+            let found = self.see_word(seat, 10 * segment + number);
+            seen[10 * segment + number] = found;
+            words[number] = found;
+        }
+        words
+    }
+
+    // Claims the first run of a segment that the looks allow. Where a chunk of it is missed, the search goes on behind it.
+    fn claim_in(
+        &self,
+        seat: &mut MapSeat,
+        seen: &mut [u64; 80],
+        segment: usize,
+        count: usize,
+    ) -> Option<usize>
+        requires own { BelongsTo seat.old self.now }
+        requires segment { segment < self.now.segments }
+        requires open { segment < open_seen (knows seat.old).log }
+        requires count { (1 ≤ count) × (count ≤ 640) }
+        requires fresh { (chunk : ℕ) → 640 * segment ≤ chunk → was_gained (knows seat.old).log chunk ≡ false }
+        requires shows { Shows seen.old (knows seat.old) }
+        ensures own { BelongsTo seat.new self.now }
+        ensures shows { Shows seen.new (knows seat.new) }
+        ensures others { (number : ℕ) → number / 10 ≢ segment → slice_index seen.new number ≡ slice_index seen.old number }
+        ensures search { SameSearch (knows seat.old) (knows seat.new) }
+        ensures fresh { (chunk : ℕ) → 640 * (segment + 1) ≤ chunk → was_gained (knows seat.new).log chunk ≡ false }
+        ensures some { IfSome result (λ first. AreFree (is_free (slice_index seen.new)) count segment first) }
+        ensures lowest { IfSome result (λ first. NoneBelow (is_free (slice_index seen.new)) count segment first) }
+        ensures gained { IfSome result (λ first. (f : ℕ → ℕ) → weigh f (knows seat.new).held ≡ weigh f (range_with_len (640 * segment + first) count) + weigh f (knows seat.old).held) }
+        ensures held { IfNone result ((knows seat.new).held ≡ (knows seat.old).held) }
+        ensures none { IfNone result (NoneBelow (is_free (slice_index seen.new)) count segment 640) }
+    {
+        let words = self.look(seat, seen, segment);
+        let starts = run_starts(&words, count);
+        let mut from = 0;
+        while let Some(first) = first_from(&starts, from) {
+            let gained = self.gain(seat, 640 * segment + first, count);
+            if gained == count {
+                return Some(first);
+            }
+            clear(seen, 640 * segment + first + gained);
+            from = first + gained + 1;
+        }
+        None
+    }
+
+    /// Claims a run of as many neighbouring chunks as so many bytes need. The search takes the lowest open segment, and in it
+    /// the lowest chunks, that its looks allow; chunks gained on the way to a full map are given back.
+    ///
+    /// A look at a chunk is a load of its word, or a try to take its bit. A chunk that the call gained counts as found free
+    /// from then on, also after it was given back.
+    pub fn claim_run(&self, seat: &mut MapSeat, size: u32) -> Claim
+        requires own { BelongsTo seat.old self.now }
+        requires size { (1 ≤ size) × (size ≤ 10485760) }
+        ensures own { BelongsTo seat.new self.now }
+        ensures search { (opened : ℕ) × (opened ≤ self.now.segments) × Searched opened (knows seat.old).log (knows seat.new).log × IfRun result (λ run. run.segment < opened) × IfFull result (λ seen. seen.segments ≡ opened) }
+        ensures run { IfRun result (λ run. (run.size ≡ size) × AreFree (seen_free (knows seat.new).log) (chunks_for size) run.segment run.chunk × IsLowest (seen_free (knows seat.new).log) (chunks_for size) run.segment run.chunk) }
+        ensures gained { IfRun result (λ run. (f : ℕ → ℕ) → weigh f (knows seat.new).held ≡ weigh f (run_chunks run) + weigh f (knows seat.old).held) }
+        ensures full { IfFull result (λ seen. Shows seen.words (knows seat.new) × HasNoRun seen (chunks_for size)) }
+        ensures past { IfFull result (λ seen. (number : ℕ) → 10 * seen.segments ≤ number → slice_index seen.words number ≡ 0) }
+        ensures held { IfFull result (λ seen. (knows seat.new).held ≡ (knows seat.old).held) }
+    {
+        let count = chunk_count(size);
+        let opened = self.see_open(seat) as usize;
+        let mut words = unseen();
+        for segment in 0..opened {
+            if let Some(chunk) = self.claim_in(seat, &mut words, segment, count) {
+                return Claim::Run(Run {
+                    segment: segment as u16,
+                    chunk: chunk as u16,
+                    size,
+                });
+            }
+        }
+        Claim::Full(Seen {
+            words,
+            segments: opened as u32,
+        })
+    }
+
+    /// Gives the chunks of a run back.
+    pub fn release_run(&self, seat: &mut MapSeat, run: Run)
+        requires own { BelongsTo seat.old self.now }
+        requires held { (i : ℕ) → i < chunks_for run.size → HoldsChunk seat.old (640 * run.segment + run.chunk + i) }
+        ensures own { BelongsTo seat.new self.now }
+        ensures view { knows seat.new ≡ given_back (640 * run.segment + run.chunk) (chunks_for run.size) (knows seat.old) }
+        ensures released { (f : ℕ → ℕ) → weigh f (run_chunks run) + weigh f (knows seat.new).held ≡ weigh f (knows seat.old).held }
+    {
+        let first = 640 * run.segment as usize + run.chunk as usize;
+        self.give_back(seat, first, run.chunk_count() as usize);
+    }
+
+    /// Opens one more segment, where not all are open.
+    pub fn open_more(&self, seat: &mut MapSeat) -> Opened
+        requires own { BelongsTo seat.old self.now }
+        ensures own { BelongsTo seat.new self.now }
+        ensures yes { (n : ℕ) → result ≡ Opened.Yes n → (2 ≤ n) × (n ≤ self.now.segments) × (knows seat.new ≡ after (OpenedTo n) (after (SawOpen (n - 1)) (knows seat.old))) }
+        ensures all { (n : ℕ) → result ≡ Opened.AllOpen n → (n ≡ self.now.segments) × (knows seat.new ≡ after (SawOpen n) (knows seat.old)) }
+        ensures other { (found : ℕ) → result ≡ Opened.Other found → (loaded : ℕ) × (loaded < self.now.segments) × (found ≢ loaded) × (knows seat.new ≡ after (FoundOpen found) (after (SawOpen loaded) (knows seat.old))) }
+    {
+        let count = self.see_open(seat);
+        if count == self.segments as u64 {
+            return Opened::AllOpen(self.segments);
+        }
+        let found = self.exchange_open(seat, count);
+        if found == count {
+            Opened::Yes(count as u32 + 1)
+        } else {
+            Opened::Other(found as u32)
+        }
+    }
+}
