@@ -85,18 +85,19 @@ abbrev pub IsInRun : Run → ℕ → Type 0
 IsInRun run number =
     (chunk_number run.segment run.chunk ≤ number) × (number < chunk_number run.segment run.chunk + chunks_for run.size)
 
--- the segment is on the side of those who fill the queue: engines fill queue 0, workers the others
-abbrev pub IsOnSideOf : Shape → ℕ → ℕ → Type 0
-IsOnSideOf shape queue segment =
-    if queue == 0
-    then segment < shape.out_segments
-    else (shape.out_segments ≤ segment) × (segment < shape.out_segments + shape.back_segments)
+-- the segments of the side of those who fill the queue, its first and the one behind its last: engines fill queue 0,
+-- workers the others
+abbrev pub first_segment : Shape → ℕ → ℕ
+first_segment shape queue = if queue == 0 then 0 else shape.out_segments
+
+abbrev pub end_segment : Shape → ℕ → ℕ
+end_segment shape queue = if queue == 0 then shape.out_segments else shape.out_segments + shape.back_segments
 
 -- the run has a size of at least 1, and lies in one segment of the queue's side
 pub record FitsQueue (shape : Shape) (queue : ℕ) (run : Run) : Type 0 where
   pub some : 1 ≤ run.size
   pub in_segment : run.chunk + chunks_for run.size ≤ 640
-  pub on_side : IsOnSideOf shape queue run.segment
+  pub on_side : (first_segment shape queue ≤ run.segment) × (run.segment < end_segment shape queue)
 
 -- who has the chunks
 pub record HasItsOwners (core : Core) : Type 0 where
