@@ -1,6 +1,15 @@
+pub mod ChangedCore
 pub mod FirstEntries
+pub mod HeldChunkSteps
+pub mod HeldFrames
+pub mod HeldItemSteps
+pub mod HeldItems
+pub mod HeldOpening
+pub mod HeldRunSteps
+pub mod HeldSteps
 pub mod Lists
 pub mod MetConditions
+pub mod MetSteps
 pub mod OwnedChunks
 pub mod Running
 pub mod Weights

@@ -6,6 +6,7 @@
 
 mod conditions;
 mod effects;
+mod holding_laws;
 mod lines;
 mod machine;
 mod opening;
@@ -15,6 +16,7 @@ mod shape;
 mod steps;
 mod streams;
 
+pub use holding_laws::{all_is_held_right_at_first, each_step_holds_right};
 pub use lines::step_line;
 pub use machine::{
     Core, Entry, Item, Note, Owner, Part, Queue, RunFault, Seat, Sides, Step, StepFault, Unmet,
