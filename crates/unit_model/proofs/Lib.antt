@@ -6,6 +6,7 @@ pub mod HeldItemSteps
 pub mod HeldItems
 pub mod HeldOpening
 pub mod HeldRunSteps
+pub mod HeldSound
 pub mod HeldSteps
 pub mod Lists
 pub mod MetConditions

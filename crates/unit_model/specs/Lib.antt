@@ -8,4 +8,5 @@ pub mod Opening
 pub mod Running
 pub mod Runs
 pub mod Shapes
+pub mod Sound
 pub mod Weights

@@ -16,7 +16,10 @@ mod shape;
 mod steps;
 mod streams;
 
-pub use holding_laws::{all_is_held_right_at_first, each_step_holds_right};
+pub use holding_laws::{
+    all_is_held_right_at_first, chunks_are_free_at_rest, each_step_holds_right,
+    held_right_is_each_point,
+};
 pub use lines::step_line;
 pub use machine::{
     Core, Entry, Item, Note, Owner, Part, Queue, RunFault, Seat, Sides, Step, StepFault, Unmet,
