@@ -17,8 +17,8 @@ mod steps;
 mod streams;
 
 pub use holding_laws::{
-    all_is_held_right_at_first, chunks_are_free_at_rest, each_step_holds_right,
-    held_right_is_each_point,
+    all_is_held_right_at_first, chunks_are_free_at_rest, each_run_holds_right,
+    each_step_holds_right, held_right_is_each_point,
 };
 pub use lines::step_line;
 pub use machine::{
@@ -31,5 +31,7 @@ pub use shape::Shape;
 pub use steps::{run_core, step_core};
 pub use unit_types::{Addr, Bytes, Field, Fields, Handlers, Reply, Request};
 
+#[cfg(test)]
+mod condition_tests;
 #[cfg(test)]
 mod tests;
