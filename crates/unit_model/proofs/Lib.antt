@@ -1,3 +1,4 @@
+pub mod Changes
 pub mod FirstEntries
 pub mod Lists
 pub mod MetConditions

@@ -4,7 +4,9 @@ pub mod Effects
 pub mod Lines
 pub mod Lists
 pub mod Opening
+pub mod PartCounts
 pub mod Running
 pub mod Runs
 pub mod Shapes
+pub mod StreamCounts
 pub mod Weights
