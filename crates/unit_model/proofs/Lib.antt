@@ -1,7 +1,13 @@
 pub mod Changes
 pub mod FirstEntries
+pub mod ItemChanges
 pub mod Lists
 pub mod MetConditions
 pub mod OwnedChunks
 pub mod Running
+pub mod SeatNotes
+pub mod StepFacts
+pub mod StreamFrames
+pub mod StreamLaw
+pub mod StreamSteps
 pub mod Weights

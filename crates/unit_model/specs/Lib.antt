@@ -1,5 +1,6 @@
 pub mod Conditions
 pub mod Core
+pub mod CountLaws
 pub mod Effects
 pub mod Lines
 pub mod Lists

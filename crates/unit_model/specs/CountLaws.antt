@@ -1,0 +1,10 @@
+-- The laws on counts of streams and parts.
+use Rattle.unit_model.specs.Effects.{after_step}
+use Rattle.unit_model.specs.Running.{Enabled}
+use Rattle.unit_model.specs.StreamCounts.{StreamCounts}
+use Rattle.unit_model.specs.declared.machine.Core.{Core}
+use Rattle.unit_model.specs.declared.machine.Step.{Step}
+
+-- an enabled step keeps what holds of the counts of streams
+abbrev pub StepKeepsStreams : Type 0
+StepKeepsStreams = (core : Core) (step : Step) → StreamCounts core → Enabled core step → StreamCounts (after_step core step)

@@ -1,0 +1,7 @@
+//! Laws on the streams and parts of a core. Each function does nothing: its contract is the law.
+ghost use Rattle.unit_model.specs.CountLaws.{StepKeepsStreams};
+
+/// An enabled step keeps what holds of the counts of streams.
+pub fn a_step_keeps_streams()
+    ensures { StepKeepsStreams }
+{}
