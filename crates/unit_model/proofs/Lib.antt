@@ -3,11 +3,13 @@ pub mod FirstEntries
 pub mod ItemChanges
 pub mod Lists
 pub mod MetConditions
+pub mod OpenedCounts
 pub mod OwnedChunks
 pub mod Running
 pub mod SeatNotes
 pub mod StepFacts
 pub mod StreamFrames
 pub mod StreamLaw
+pub mod StreamRuns
 pub mod StreamSteps
 pub mod Weights

@@ -3,6 +3,7 @@ ghost use Rattle.std.specs.Prelude.{◌≡◌, ◌<◌, ◌≤◌, ◌+◌, ◌*
 ghost use Rattle.unit_model.specs.Core.{blank, no_seat};
 ghost use Rattle.unit_model.specs.Opening.{first_entries, fresh_queue, opened_core};
 ghost use Rattle.unit_model.specs.Shapes.{IsValid};
+ghost use Rattle.unit_model.specs.StreamCounts.{StreamCounts};
 ghost use Rattle.unit_model.specs.declared.machine.Owner.TheVariants.{Free};
 
 use crate::conditions::BLANK;
@@ -18,7 +19,8 @@ impl Core {
     /// Fails for want of memory alone.
     pub fn open(alloc: Global, shape: &Shape) -> Result<Core, AllocError>
         requires { IsValid shape.now }
-        ensures { IfOk result (λ core. core ≡ opened_core shape.now) }
+        ensures opened { IfOk result (λ core. core ≡ opened_core shape.now) }
+        ensures streams { IfOk result StreamCounts }
     {
         let chunks = 640 * (shape.out_segments as usize + shape.back_segments as usize);
         let queues = fresh_queues(alloc, shape)?;
