@@ -1,7 +1,8 @@
 -- What stands in a list of which one element has changed, and the sums over it.
 use Rattle.std.proofs.Common.{◌≡◌, ◌≢◌, ℕ, zero, suc, ◌+◌, ◌-◌, ◌<◌, ◌≤◌, Bool, true, false, List, [], ◌∷◌, ◌++◌, ◌&&◌, ◌==◌, length, get_or, set, drop, refl, sym, ap, ◌∙◌, arith, inl, inr, ◌⊎◌}
 use Rattle.std.specs.List.{list_any}
-use Rattle.std.proofs.lemmas.Bool.{eqb-true, cases_eq, cases_lt}
+use Rattle.std.proofs.lemmas.Bool.{cases_eq, cases_lt}
+use Rattle.std.proofs.lemmas.List.Folds.{list_any_at}
 use Rattle.unit_model.specs.Lists.{change_at}
 use Rattle.unit_model.specs.Weights.{weigh, one_if, is_number, times, over_all}
 use Rattle.unit_model.proofs.Weights.{weigh_at, weigh_two, weigh_push, is_number_same, is_number_some}
@@ -100,4 +101,23 @@ none_counts test (x ∷ xs) none =
     elim (bool_cases (test x)) [
       | inl here ↦ absurd (cc (rw here at none))
       | inr not_here ↦ omega (arith, ap one_if not_here, none_counts test xs (rw not_here at none))
+    ]
+
+-- ---- one element alone has a weight
+
+weigh_zero_each : {X : Type 0} (f : X → ℕ) (xs : List X) (d : X) → ((i : ℕ) → f (get_or xs i d) ≡ 0) → weigh f xs ≡ 0
+weigh_zero_each f [] d none = refl
+weigh_zero_each f (x ∷ xs) d none = omega (arith, none 0, weigh_zero_each f xs d (λ i. none (suc i)))
+
+pub weigh_only : {X : Type 0} (f : X → ℕ) (xs : List X) (n : ℕ) (d : X) → n < length xs → ((i : ℕ) → i ≢ n → f (get_or xs i d) ≡ 0) → weigh f xs ≡ f (get_or xs n d)
+weigh_only f [] n d lt others = absurd (omega arith)
+weigh_only f (x ∷ xs) zero d lt others = omega (arith, weigh_zero_each f xs d (λ i. others (suc i) (omega arith)))
+weigh_only f (x ∷ xs) (suc n) d lt others = omega (arith, others 0 (omega arith), weigh_only f xs n d (omega arith) (λ i other. others (suc i) (omega (arith, other))))
+
+-- where no element passes, none does
+pub any_none_at : {X : Type 0} (test : X → Bool) (xs : List X) (i : ℕ) (d : X) → list_any test xs ≡ false → i < length xs → test (get_or xs i d) ≡ false
+any_none_at test xs i d none inside =
+    elim (bool_cases (test (get_or xs i d))) [
+      | inr fails ↦ fails
+      | inl passes ↦ absurd (cc (none, list_any_at test xs i d inside passes))
     ]

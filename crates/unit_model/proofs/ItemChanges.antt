@@ -23,7 +23,7 @@ queue_past [] queue past = refl
 queue_past (q ∷ queues) zero past = absurd (omega arith)
 queue_past (q ∷ queues) (suc queue) past = queue_past queues queue (omega arith)
 
-item_past : (items : List Item) (item : ℕ) → length items ≤ item → get_or items item blank ≡ blank
+pub item_past : (items : List Item) (item : ℕ) → length items ≤ item → get_or items item blank ≡ blank
 item_past [] item past = refl
 item_past (i ∷ items) zero past = absurd (omega arith)
 item_past (i ∷ items) (suc item) past = item_past items item (omega arith)
@@ -113,8 +113,8 @@ backs_stay f core new item now s =
     let weight : Queue → ℕ = λ q. weigh f q.items in
     ap (λ (qs : List Queue). weigh weight (drop 1 qs)) s.queues ∙ ap (weigh weight) (drop_first s.change core.queues)
 
-pub backs_change : (f : Item → ℕ) (core new : Core) (engine item : ℕ) (now : Item) → SetsItem core new (suc engine) item now → over_back_items f new + f (item_of core (suc engine) item) ≡ over_back_items f core + f now
-backs_change f core new engine item now s =
+behind_change : (f : Item → ℕ) (core new : Core) (engine item : ℕ) (now : Item) → SetsItem core new (suc engine) item now → over_back_items f new + f (item_of core (suc engine) item) ≡ over_back_items f core + f now
+behind_change f core new engine item now s =
     let weight : Queue → ℕ = λ q. weigh f q.items in
     let backs = drop 1 core.queues in
     let at = ap (λ (qs : List Queue). weigh weight (drop 1 qs)) s.queues ∙ ap (weigh weight) (drop_later engine s.change core.queues) in
@@ -124,9 +124,13 @@ backs_change f core new engine item now s =
     let inside : item < length old.items = rw is s.inside in
     omega (arith, at, weigh_changed weight engine s.change backs no_queue there, ap (weigh f) (s.items old), weigh-set f old.items item now blank inside, ap (λ (q : Queue). f (get_or q.items item blank)) is)
 
--- one item of a back queue is a part of them all
-pub back_item_in_all : (f : Item → ℕ) (core : Core) (engine item : ℕ) → f blank ≡ 0 → f (item_of core (suc engine) item) ≤ over_back_items f core
-back_item_in_all f core engine item none =
+pub backs_change : (f : Item → ℕ) (core new : Core) (engine item : ℕ) (now : Item) → SetsItem core new (1 + engine) item now → over_back_items f new + f (item_of core (1 + engine) item) ≡ over_back_items f core + f now
+backs_change f core new engine item now s =
+    let one : 1 + engine ≡ suc engine = omega arith in
+    rw one (behind_change f core new engine item now (rw one at s))
+
+behind_in_all : (f : Item → ℕ) (core : Core) (engine item : ℕ) → f blank ≡ 0 → f (item_of core (suc engine) item) ≤ over_back_items f core
+behind_in_all f core engine item none =
     let weight : Queue → ℕ = λ q. weigh f q.items in
     let backs = drop 1 core.queues in
     let is : get_or backs engine no_queue ≡ queue_of core (suc engine) = get_later engine core.queues no_queue in
@@ -136,3 +140,9 @@ back_item_in_all f core engine item none =
           omega (arith, weigh_at weight backs engine no_queue there, ap weight is, weigh_at f (queue_of core (suc engine)).items item blank inside)
       | inr past ↦ omega (arith, ap f (item_past (queue_of core (suc engine)).items item past), none)
     ]
+
+-- one item of a back queue is a part of them all
+pub back_item_in_all : (f : Item → ℕ) (core : Core) (engine item : ℕ) → f blank ≡ 0 → f (item_of core (1 + engine) item) ≤ over_back_items f core
+back_item_in_all f core engine item none =
+    let one : 1 + engine ≡ suc engine = omega arith in
+    rw one (behind_in_all f core engine item none)

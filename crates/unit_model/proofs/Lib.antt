@@ -5,6 +5,12 @@ pub mod Lists
 pub mod MetConditions
 pub mod OpenedCounts
 pub mod OwnedChunks
+pub mod PartFrames
+pub mod PartLaw
+pub mod PartLists
+pub mod PartNotes
+pub mod PartSending
+pub mod PartSteps
 pub mod Running
 pub mod SeatNotes
 pub mod StepFacts

@@ -1,5 +1,6 @@
 -- The laws on counts of streams and parts.
 use Rattle.unit_model.specs.Effects.{after_step}
+use Rattle.unit_model.specs.PartCounts.{PartCounts}
 use Rattle.unit_model.specs.Running.{Enabled}
 use Rattle.unit_model.specs.StreamCounts.{StreamCounts}
 use Rattle.unit_model.specs.declared.machine.Core.{Core}
@@ -8,3 +9,7 @@ use Rattle.unit_model.specs.declared.machine.Step.{Step}
 -- an enabled step keeps what holds of the counts of streams
 abbrev pub StepKeepsStreams : Type 0
 StepKeepsStreams = (core : Core) (step : Step) → StreamCounts core → Enabled core step → StreamCounts (after_step core step)
+
+-- and what holds of the counts of parts
+abbrev pub StepKeepsParts : Type 0
+StepKeepsParts = (core : Core) (step : Step) → StreamCounts core → PartCounts core → Enabled core step → PartCounts (after_step core step)

@@ -25,7 +25,7 @@ pub use runs::{Run, Seen, no_longer_run, run_has_its_chunks};
 pub use series::Series;
 pub use shape::Shape;
 pub use steps::{run_core, step_core};
-pub use stream_laws::a_step_keeps_streams;
+pub use stream_laws::{a_step_keeps_parts, a_step_keeps_streams};
 pub use unit_types::{Addr, Bytes, Field, Fields, Handlers, Reply, Request};
 
 #[cfg(test)]

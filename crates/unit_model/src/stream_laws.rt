@@ -1,7 +1,12 @@
 //! Laws on the streams and parts of a core. Each function does nothing: its contract is the law.
-ghost use Rattle.unit_model.specs.CountLaws.{StepKeepsStreams};
+ghost use Rattle.unit_model.specs.CountLaws.{StepKeepsParts, StepKeepsStreams};
 
 /// An enabled step keeps what holds of the counts of streams.
 pub fn a_step_keeps_streams()
     ensures { StepKeepsStreams }
+{}
+
+/// An enabled step keeps what holds of the counts of parts.
+pub fn a_step_keeps_parts()
+    ensures { StepKeepsParts }
 {}
