@@ -1,8 +1,17 @@
+pub mod ChangedCore
 pub mod Changes
 pub mod FirstEntries
+pub mod HeldChunkSteps
+pub mod HeldFrames
+pub mod HeldItemSteps
+pub mod HeldItems
+pub mod HeldOpening
+pub mod HeldRunSteps
+pub mod HeldSteps
 pub mod ItemChanges
 pub mod Lists
 pub mod MetConditions
+pub mod MetSteps
 pub mod OpenedCounts
 pub mod OwnedChunks
 pub mod PartFrames

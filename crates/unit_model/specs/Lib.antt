@@ -2,6 +2,7 @@ pub mod Conditions
 pub mod Core
 pub mod CountLaws
 pub mod Effects
+pub mod Holding
 pub mod Lines
 pub mod Lists
 pub mod Opening

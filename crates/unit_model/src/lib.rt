@@ -6,6 +6,7 @@
 
 mod conditions;
 mod effects;
+mod holding_laws;
 mod lines;
 mod machine;
 mod opening;
@@ -16,6 +17,7 @@ mod steps;
 mod stream_laws;
 mod streams;
 
+pub use holding_laws::{all_is_held_right_at_first, each_step_holds_right};
 pub use lines::step_line;
 pub use machine::{
     Core, Entry, Item, Note, Owner, Part, Queue, RunFault, Seat, Sides, Step, StepFault, Unmet,

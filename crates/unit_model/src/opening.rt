@@ -1,6 +1,7 @@
 //! The core as it begins.
 ghost use Rattle.std.specs.Prelude.{◌≡◌, ◌<◌, ◌≤◌, ◌+◌, ◌*◌, ◌^◌, ◌∷◌, ◌++◌, [], IfOk, OnOk, replicate};
 ghost use Rattle.unit_model.specs.Core.{blank, no_seat};
+ghost use Rattle.unit_model.specs.Holding.{IsHeldRight};
 ghost use Rattle.unit_model.specs.Opening.{first_entries, fresh_queue, opened_core};
 ghost use Rattle.unit_model.specs.Shapes.{IsValid};
 ghost use Rattle.unit_model.specs.StreamCounts.{StreamCounts};
@@ -17,9 +18,11 @@ impl Core {
     /// free lists in ascending order, and the next stream is 1.
     ///
     /// Fails for want of memory alone.
+    #[tactic(auto, using(crate::proofs::HeldOpening::opened_holds_right))]
     pub fn open(alloc: Global, shape: &Shape) -> Result<Core, AllocError>
         requires { IsValid shape.now }
         ensures opened { IfOk result (λ core. core ≡ opened_core shape.now) }
+        ensures held { IfOk result (λ core. IsHeldRight core) }
         ensures streams { IfOk result StreamCounts }
     {
         let chunks = 640 * (shape.out_segments as usize + shape.back_segments as usize);

@@ -1,0 +1,19 @@
+//! Laws of who holds what.
+ghost use Rattle.unit_model.specs.Effects.{after_step};
+ghost use Rattle.unit_model.specs.Holding.{IsHeldRight};
+ghost use Rattle.unit_model.specs.Opening.{opened_core};
+ghost use Rattle.unit_model.specs.Running.{Enabled};
+ghost use Rattle.unit_model.specs.Shapes.{IsValid};
+ghost use Rattle.unit_model.specs.declared.machine.Core.{Core};
+ghost use Rattle.unit_model.specs.declared.machine.Step.{Step};
+ghost use Rattle.unit_model.specs.declared.shape.Shape.{Shape};
+
+/// In the core of a valid shape as it begins all is held right. This does nothing: its contract is the law.
+pub fn all_is_held_right_at_first()
+    ensures { (shape : Shape) → IsValid shape → IsHeldRight (opened_core shape) }
+{}
+
+/// An enabled step leaves all held right. This does nothing: its contract is the law.
+pub fn each_step_holds_right()
+    ensures { (core : Core) (step : Step) → IsHeldRight core → Enabled core step → IsHeldRight (after_step core step) }
+{}
