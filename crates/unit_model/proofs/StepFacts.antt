@@ -69,7 +69,7 @@ pub tag_is : (core : Core) (queue item tag : ℕ) → has_tag core queue item ta
 unfolding has_tag
 tag_is core queue item tag met = eqb-true (item_of core queue item).tag tag (test_of ((item_of core queue item).tag == tag) _ _ _ met)
 
-held_of : (seat : ℕ) (w : Whereabouts) → whereabouts_code w ≡ 1 + seat → seat < 2 ^ 32 - 1 → w ≡ WithSeat seat
+pub held_of : (seat : ℕ) (w : Whereabouts) → whereabouts_code w ≡ 1 + seat → seat < 2 ^ 32 - 1 → w ≡ WithSeat seat
 held_of seat InFreeList same small = absurd (omega (arith, same))
 held_of seat InLine same small = absurd (omega (arith, same, small))
 held_of seat (WithSeat k) same small = ap WithSeat (omega (arith, same))

@@ -1,5 +1,6 @@
 -- The laws on counts of streams and parts.
 use Rattle.unit_model.specs.Effects.{after_step}
+use Rattle.unit_model.specs.Holding.{IsHeldRight}
 use Rattle.unit_model.specs.PartCounts.{PartCounts}
 use Rattle.unit_model.specs.Running.{Enabled}
 use Rattle.unit_model.specs.StreamCounts.{StreamCounts}
@@ -10,6 +11,6 @@ use Rattle.unit_model.specs.declared.machine.Step.{Step}
 abbrev pub StepKeepsStreams : Type 0
 StepKeepsStreams = (core : Core) (step : Step) → StreamCounts core → Enabled core step → StreamCounts (after_step core step)
 
--- and what holds of the counts of parts
+-- and what holds of the counts of parts, where the core is held right
 abbrev pub StepKeepsParts : Type 0
-StepKeepsParts = (core : Core) (step : Step) → StreamCounts core → PartCounts core → Enabled core step → PartCounts (after_step core step)
+StepKeepsParts = (core : Core) (step : Step) → IsHeldRight core → StreamCounts core → PartCounts core → Enabled core step → PartCounts (after_step core step)
