@@ -1,16 +1,20 @@
 -- The counts of the core as it begins.
-use Rattle.std.proofs.Common.{◌≡◌, ◌≢◌, ℕ, zero, suc, ◌+◌, ◌<◌, ◌≤◌, ◌==◌, ◌&&◌, List, [], ◌∷◌, length, get_or, replicate, drop, refl, sym, ap, ◌∙◌, arith, inl, inr, ◌⊎◌}
-use Rattle.std.proofs.lemmas.Bool.{ne_eqb}
+use Rattle.std.proofs.Common.{◌≡◌, ◌≢◌, ℕ, zero, suc, ◌+◌, ◌<◌, ◌≤◌, ◌==◌, ◌&&◌, nat_lt, filter, List, [], ◌∷◌, length, get_or, replicate, drop, refl, sym, ap, ◌∙◌, arith, inl, inr, ◌⊎◌}
+use Rattle.std.proofs.lemmas.Bool.{ne_eqb, le-ltb}
 use Rattle.unit_model.specs.Conditions.{parts_sent}
 use Rattle.unit_model.specs.Core.{blank, no_queue, no_seat, queue_of, item_of, seat_of}
 use Rattle.unit_model.specs.Opening.{opened_core, fresh_queue}
-use Rattle.unit_model.specs.PartCounts.{PartCounts, carries, over_back_items, parts_by_seat, sent, received, sent_parts, times_sent, times_received, times_under_way, times_withdrawn, same_part, of_number}
+use Rattle.unit_model.specs.PartCounts.{PartCounts, is_of_stream, of_stream, carries, over_back_items, parts_by_seat, sent, received, sent_parts, times_sent, times_received, times_under_way, times_withdrawn, same_part, of_number}
 use Rattle.unit_model.specs.StreamCounts.{StreamCounts, by_seat, by_all, drawn, posted, cancelled, abandoned, taken, closed, line_tags}
 use Rattle.unit_model.specs.Weights.{weigh, one_if, is_number, over_all}
 use Rattle.unit_model.specs.declared.machine.Item.{Item}
+use Rattle.unit_model.specs.declared.machine.Part.{Part}
 use Rattle.unit_model.specs.declared.machine.Queue.{Queue}
 use Rattle.unit_model.specs.declared.machine.Seat.{Seat as SeatLists}
 use Rattle.unit_model.specs.declared.shape.Shape.{Shape}
+use Rattle.unit_model.proofs.PartFrames.{carries_none}
+use Rattle.unit_model.proofs.PartNotes.{parts_sent_is}
+use Rattle.unit_model.proofs.PartSteps.{withdrawn_zero}
 
 -- ---- lists of one value
 
@@ -76,4 +80,32 @@ streams_at_first shape =
       abandoned_by_poster = λ k s. omega (arith, each_none abandoned shape refl k s);
       abandoned_is_taken = λ s. omega (arith, all_none (is_number s) abandoned shape refl);
       part_is_poster = λ i tagged. absurd (tagged (untagged shape 0 i));
+    }
+
+-- ---- the counts of parts
+
+parts_none : (list : SeatLists → List Part) (shape : Shape) → list no_seat ≡ [] → (f : Part → ℕ) (seat : ℕ) → weigh f (list (seat_of (opened_core shape) seat)) ≡ 0
+parts_none list shape none f seat = ap (λ (l : SeatLists). weigh f (list l)) (seat_is shape seat) ∙ ap (weigh f) none
+
+none_sent : (shape : Shape) (seat stream : ℕ) → sent_parts (opened_core shape) seat stream ≡ []
+none_sent shape seat stream = ap (λ (l : SeatLists). filter (is_of_stream stream) l.sent) (seat_is shape seat)
+
+no_parts_sent : (shape : Shape) (stream : ℕ) → parts_sent (opened_core shape) stream ≡ 0
+no_parts_sent shape stream = parts_sent_is (opened_core shape) stream ∙ all_none (of_stream stream) sent shape refl
+
+pub parts_at_first : (shape : Shape) → PartCounts (opened_core shape)
+parts_at_first shape =
+    let core = opened_core shape in
+    record {
+      closed_by_taker = λ k s. omega (arith, each_none closed shape refl k s);
+      sent_by_taker = λ k s has. absurd (omega (arith, has, parts_none sent shape refl (of_stream s) k));
+      received_by_poster = λ k s has. absurd (omega (arith, has, parts_none received shape refl (of_stream s) k));
+      in_order = λ k s place inside. absurd (omega (arith, inside, ap length (none_sent shape k s)));
+      last_is_final = λ k s place inside. absurd (omega (arith, inside, ap length (none_sent shape k s)));
+      one_state = λ s number some. omega (arith, backs_none (carries s number) shape (carries_none s number blank some refl), all_none (of_number s number) received shape refl, withdrawn_zero core s number (all_none (is_number s) closed shape refl), ap (λ n. one_if (nat_lt number n)) (no_parts_sent shape s), ap one_if (le-ltb number 0 (omega arith)));
+      to_poster = λ e i tagged. absurd (tagged (untagged shape (1 + e) i));
+      under_way_was_sent = λ e i tagged. absurd (tagged (untagged shape (1 + e) i));
+      received_was_sent = λ part has. absurd (omega (arith, has, all_none (same_part part) received shape refl));
+      held_is_own = λ k e i worker is tagged. absurd (tagged (untagged shape (1 + e) i));
+      held_is_final = λ k e i worker is tagged. absurd (tagged (untagged shape (1 + e) i));
     }

@@ -141,9 +141,9 @@ quiet_item core new queue item now shape seats sets tag part held old =
     elim (cases_eq queue 0) [
       | inl line ↦ same_seats core new shape seats (backs_beside core new item now (rw line at sets)) old
       | inr back ↦
-        let engine : ℕ = queue - 1 in
-        let is : queue ≡ 1 + engine = omega (arith, back) in
-        same_seats core new shape seats (backs_quiet core new engine item now (rw is at sets) (rw is at tag) (rw is at part) (λ k. rw is at (held k back))) old
+          let engine : ℕ = queue - 1 in
+          let is : queue ≡ 1 + engine = omega (arith, back) in
+          same_seats core new shape seats (backs_quiet core new engine item now (rw is at sets) (rw is at tag) (rw is at part) (λ k. rw is at (held k back))) old
     ]
 
 after_set_run : (core : Core) (seat queue item : ℕ) (run : Run) → PartCounts core → first_unmet core (SetRun seat queue item run) ≡ None → PartCounts (after_step core (SetRun seat queue item run))
@@ -335,8 +335,8 @@ after_arm core seat queue item stream streams old met =
     elim (cases_eq queue 0) [
       | inl line ↦ rw line (after_arm_line core seat item stream streams old (rw line at met))
       | inr back ↦
-        let is : queue ≡ 1 + (queue - 1) = omega (arith, back) in
-        subst (λ q. PartCounts (after_step core (Arm seat q item stream))) (sym is) (after_arm_back core seat (queue - 1) item stream streams old (subst (λ q. first_unmet core (Arm seat q item stream) ≡ None) is met))
+          let is : queue ≡ 1 + (queue - 1) = omega (arith, back) in
+          subst (λ q. PartCounts (after_step core (Arm seat q item stream))) (sym is) (after_arm_back core seat (queue - 1) item stream streams old (subst (λ q. first_unmet core (Arm seat q item stream) ≡ None) is met))
     ]
 
 after_settle : (core : Core) (seat queue item stream : ℕ) → IsHeldRight core → StreamCounts core → PartCounts core → first_unmet core (Settle seat queue item stream) ≡ None → PartCounts (after_step core (Settle seat queue item stream))

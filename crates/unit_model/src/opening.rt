@@ -3,6 +3,7 @@ ghost use Rattle.std.specs.Prelude.{◌≡◌, ◌<◌, ◌≤◌, ◌+◌, ◌*
 ghost use Rattle.unit_model.specs.Core.{blank, no_seat};
 ghost use Rattle.unit_model.specs.Holding.{IsHeldRight};
 ghost use Rattle.unit_model.specs.Opening.{first_entries, fresh_queue, opened_core};
+ghost use Rattle.unit_model.specs.PartCounts.{PartCounts};
 ghost use Rattle.unit_model.specs.Shapes.{IsValid};
 ghost use Rattle.unit_model.specs.StreamCounts.{StreamCounts};
 ghost use Rattle.unit_model.specs.declared.machine.Owner.TheVariants.{Free};
@@ -23,7 +24,8 @@ impl Core {
         requires { IsValid shape.now }
         ensures opened { IfOk result (λ core. core ≡ opened_core shape.now) }
         ensures held { IfOk result (λ core. IsHeldRight core) }
-        ensures streams { IfOk result StreamCounts }
+        ensures streams { IfOk result (λ core. StreamCounts core) }
+        ensures parts { IfOk result (λ core. PartCounts core) }
     {
         let chunks = 640 * (shape.out_segments as usize + shape.back_segments as usize);
         let queues = fresh_queues(alloc, shape)?;
