@@ -7,9 +7,11 @@ pub mod HeldItemSteps
 pub mod HeldItems
 pub mod HeldOpening
 pub mod HeldRunSteps
+pub mod HeldSound
 pub mod HeldSteps
 pub mod ItemChanges
 pub mod Lists
+pub mod Members
 pub mod MetConditions
 pub mod MetSteps
 pub mod OpenedCounts

@@ -39,7 +39,7 @@ of_this one stream number last counts =
     ]
 
 -- what counts as the same part is it
-counted_is : (one other : Part) → 1 ≤ same_part one other → one ≡ other
+pub counted_is : (one other : Part) → 1 ≤ same_part one other → one ≡ other
 counted_is one other counts =
     elim (bool_cases (is_same_part one other)) [
       | inl same ↦ same_is one other same

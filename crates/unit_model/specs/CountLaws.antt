@@ -1,8 +1,10 @@
 -- The laws on counts of streams and parts.
+use Rattle.std.specs.Prelude.{◌↔◌}
 use Rattle.unit_model.specs.Effects.{after_step}
 use Rattle.unit_model.specs.Holding.{IsHeldRight}
 use Rattle.unit_model.specs.PartCounts.{PartCounts}
 use Rattle.unit_model.specs.Running.{Enabled}
+use Rattle.unit_model.specs.SoundStreams.{HasSoundStreams}
 use Rattle.unit_model.specs.StreamCounts.{StreamCounts}
 use Rattle.unit_model.specs.declared.machine.Core.{Core}
 use Rattle.unit_model.specs.declared.machine.Step.{Step}
@@ -14,3 +16,7 @@ StepKeepsStreams = (core : Core) (step : Step) → StreamCounts core → Enabled
 -- and what holds of the counts of parts, where the core is held right
 abbrev pub StepKeepsParts : Type 0
 StepKeepsParts = (core : Core) (step : Step) → IsHeldRight core → StreamCounts core → PartCounts core → Enabled core step → PartCounts (after_step core step)
+
+-- the counts say each point on streams and parts, and the points say the counts
+abbrev pub CountsAreThePoints : Type 0
+CountsAreThePoints = (core : Core) → IsHeldRight core → (StreamCounts core × PartCounts core) ↔ HasSoundStreams core

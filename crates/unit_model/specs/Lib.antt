@@ -10,5 +10,7 @@ pub mod PartCounts
 pub mod Running
 pub mod Runs
 pub mod Shapes
+pub mod Sound
+pub mod SoundStreams
 pub mod StreamCounts
 pub mod Weights

@@ -17,7 +17,10 @@ mod steps;
 mod stream_laws;
 mod streams;
 
-pub use holding_laws::{all_is_held_right_at_first, each_step_holds_right};
+pub use holding_laws::{
+    all_is_held_right_at_first, chunks_are_free_at_rest, each_step_holds_right,
+    held_right_is_each_point,
+};
 pub use lines::step_line;
 pub use machine::{
     Core, Entry, Item, Note, Owner, Part, Queue, RunFault, Seat, Sides, Step, StepFault, Unmet,
@@ -27,7 +30,7 @@ pub use runs::{Run, Seen, no_longer_run, run_has_its_chunks};
 pub use series::Series;
 pub use shape::Shape;
 pub use steps::{run_core, step_core};
-pub use stream_laws::{a_step_keeps_parts, a_step_keeps_streams};
+pub use stream_laws::{a_step_keeps_parts, a_step_keeps_streams, the_counts_are_the_points};
 pub use unit_types::{Addr, Bytes, Field, Fields, Handlers, Reply, Request};
 
 #[cfg(test)]
