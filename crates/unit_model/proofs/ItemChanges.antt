@@ -146,3 +146,19 @@ pub back_item_in_all : (f : Item → ℕ) (core : Core) (engine item : ℕ) → 
 back_item_in_all f core engine item none =
     let one : 1 + engine ≡ suc engine = omega arith in
     rw one (behind_in_all f core engine item none)
+
+behind_queue_in_all : (f : Item → ℕ) (core : Core) (engine : ℕ) → weigh f (queue_of core (suc engine)).items ≤ over_back_items f core
+behind_queue_in_all f core engine =
+    let weight : Queue → ℕ = λ q. weigh f q.items in
+    let backs = drop 1 core.queues in
+    let is : get_or backs engine no_queue ≡ queue_of core (suc engine) = get_later engine core.queues no_queue in
+    elim (cases_lt (suc engine) (length core.queues)) [
+      | inl there ↦ omega (arith, weigh_at weight backs engine no_queue (length_later engine core.queues there), ap weight is)
+      | inr past ↦ omega (arith, ap weight (queue_past core.queues (suc engine) past))
+    ]
+
+-- the items of one back queue are a part of them all
+pub back_queue_in_all : (f : Item → ℕ) (core : Core) (engine : ℕ) → weigh f (queue_of core (1 + engine)).items ≤ over_back_items f core
+back_queue_in_all f core engine =
+    let one : 1 + engine ≡ suc engine = omega arith in
+    rw one (behind_queue_in_all f core engine)

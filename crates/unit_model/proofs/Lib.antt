@@ -20,6 +20,7 @@ pub mod PartFrames
 pub mod PartLaw
 pub mod PartLists
 pub mod PartNotes
+pub mod PartPoints
 pub mod PartSending
 pub mod PartSteps
 pub mod Running
@@ -27,6 +28,7 @@ pub mod SeatNotes
 pub mod StepFacts
 pub mod StreamFrames
 pub mod StreamLaw
+pub mod StreamPoints
 pub mod StreamRuns
 pub mod StreamSteps
 pub mod Weights

@@ -110,7 +110,7 @@ withdrawn_other core stream number other = rw (ne_eqb (number + 1) (parts_sent c
 withdrawn_final : (core : Core) (stream number : ℕ) → number + 1 ≡ parts_sent core stream → times_withdrawn core stream number ≡ by_all closed core stream
 withdrawn_final core stream number final = rw (eq-eqb (number + 1) (parts_sent core stream) final) refl
 
-one_if_small : (b : Bool) → one_if b ≤ 1
+pub one_if_small : (b : Bool) → one_if b ≤ 1
 one_if_small true = omega arith
 one_if_small false = omega arith
 
