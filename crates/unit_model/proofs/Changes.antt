@@ -105,7 +105,7 @@ none_counts test (x ∷ xs) none =
 
 -- ---- one element alone has a weight
 
-weigh_zero_each : {X : Type 0} (f : X → ℕ) (xs : List X) (d : X) → ((i : ℕ) → f (get_or xs i d) ≡ 0) → weigh f xs ≡ 0
+pub weigh_zero_each : {X : Type 0} (f : X → ℕ) (xs : List X) (d : X) → ((i : ℕ) → f (get_or xs i d) ≡ 0) → weigh f xs ≡ 0
 weigh_zero_each f [] d none = refl
 weigh_zero_each f (x ∷ xs) d none = omega (arith, none 0, weigh_zero_each f xs d (λ i. none (suc i)))
 

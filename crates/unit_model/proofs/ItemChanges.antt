@@ -9,7 +9,7 @@ use Rattle.unit_model.specs.declared.machine.Core.{Core}
 use Rattle.unit_model.specs.declared.machine.Item.{Item}
 use Rattle.unit_model.specs.declared.machine.Queue.{Queue}
 use Rattle.unit_model.proofs.Changes.{changed_at, unchanged_at, weigh_changed, weigh_unchanged}
-use Rattle.unit_model.proofs.Weights.{weigh-set, weigh_at}
+use Rattle.unit_model.proofs.Weights.{weigh-set, weigh_at, weigh_some}
 
 -- the item of the queue is this one now, and no other item has changed
 pub record SetsItem (core new : Core) (queue item : ℕ) (now : Item) : Type 0 where
@@ -162,3 +162,14 @@ pub back_queue_in_all : (f : Item → ℕ) (core : Core) (engine : ℕ) → weig
 back_queue_in_all f core engine =
     let one : 1 + engine ≡ suc engine = omega arith in
     rw one (behind_queue_in_all f core engine)
+
+-- what weighs in the back queues is an item of one of them
+pub back_item_of_weight : (f : Item → ℕ) (core : Core) → 1 ≤ over_back_items f core → (engine : ℕ) × (item : ℕ) × (1 ≤ f (item_of core (1 + engine) item))
+back_item_of_weight f core some =
+    let weight : Queue → ℕ = λ q. weigh f q.items in
+    let queue = weigh_some weight (drop 1 core.queues) no_queue (omega (arith, some)) in
+    let engine : ℕ = queue.0 in
+    let one : 1 + engine ≡ suc engine = omega arith in
+    let is : get_or (drop 1 core.queues) engine no_queue ≡ queue_of core (1 + engine) = rw one (get_later engine core.queues no_queue) in
+    let item = weigh_some f (queue_of core (1 + engine)).items blank (rw is at queue.2) in
+    (engine, item.0, omega (arith, item.2))

@@ -23,6 +23,7 @@ pub mod PartNotes
 pub mod PartPoints
 pub mod PartSending
 pub mod PartSteps
+pub mod PointCounts
 pub mod Running
 pub mod SeatNotes
 pub mod StepFacts

@@ -1,7 +1,7 @@
 -- What is in a list counts there, and what counts there is in it.
 use Rattle.std.proofs.Common.{◌≡◌, ◌≢◌, ℕ, zero, suc, ◌+◌, ◌<◌, ◌≤◌, ◌==◌, Bool, true, false, List, [], ◌∷◌, filter, length, get_or, refl, sym, ap, ◌∙◌, arith, inl, inr, ◌⊎◌, subst}
 use Rattle.std.specs.Prelude.{Contains}
-use Rattle.std.proofs.lemmas.Bool.{cases_eq, cases_lt, eq-eqb}
+use Rattle.std.proofs.lemmas.Bool.{cases_eq, cases_lt, eq-eqb, eqb-true}
 use Rattle.unit_model.specs.Core.{seat_of, no_seat}
 use Rattle.unit_model.specs.PartCounts.{is_of_stream, of_stream, same_part, no_part}
 use Rattle.unit_model.specs.StreamCounts.{by_seat, by_all}
@@ -71,6 +71,26 @@ place_from stream first (second ∷ parts) part (suc k) inside is this =
 pub place_of : (stream : ℕ) (parts : List Part) (part : Part) → Contains parts part → part.stream ≡ stream → (j : ℕ) × (j < length (filter (is_of_stream stream) parts)) × (get_or (filter (is_of_stream stream) parts) j no_part ≡ part)
 place_of stream [] part here this = absurd (omega (arith, here.1))
 place_of stream (first ∷ parts) part here this = place_from stream first parts part here.0 here.1 here.2 this
+
+later : {X : Type 0} (first : X) (xs : List X) (x : X) → Contains xs x → Contains (first ∷ xs) x
+later first xs x here = (suc (here.0), omega (arith, here.1), here.2)
+
+part_from : (stream : ℕ) (first : Part) (parts found : List Part) → is_of_stream stream first ≡ true → ((j : ℕ) → j < length found → Contains parts (get_or found j no_part) × ((get_or found j no_part).stream ≡ stream)) → (j : ℕ) → j < length (first ∷ found) → Contains (first ∷ parts) (get_or (first ∷ found) j no_part) × ((get_or (first ∷ found) j no_part).stream ≡ stream)
+part_from stream first parts found passes rest zero inside = ((0, omega arith, refl), eqb-true first.stream stream passes)
+part_from stream first parts found passes rest (suc j) inside =
+    let behind = rest j (omega (arith, inside)) in
+    (later first parts _ behind.0, behind.1)
+
+-- what stands among the parts of a stream is a part of the list, and of the stream
+pub part_at_place : (stream : ℕ) (parts : List Part) (j : ℕ) → j < length (filter (is_of_stream stream) parts) → Contains parts (get_or (filter (is_of_stream stream) parts) j no_part) × ((get_or (filter (is_of_stream stream) parts) j no_part).stream ≡ stream)
+part_at_place stream [] j inside = absurd (omega (arith, inside))
+part_at_place stream (first ∷ parts) j inside =
+    elim (bool_cases (is_of_stream stream first)) [
+      | inl passes ↦ rw passes (part_from stream first parts (filter (is_of_stream stream) parts) passes (part_at_place stream parts) j (rw passes at inside))
+      | inr fails ↦ rw fails (
+        let rest = part_at_place stream parts j (rw fails at inside) in
+        (later first parts _ rest.0, rest.1))
+    ]
 
 -- ---- all seats
 

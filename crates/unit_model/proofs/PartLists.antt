@@ -97,11 +97,11 @@ taken_at_most_once core counts stream =
       | inr some ↦ omega (arith, counts.one_state stream some, once)
     ]
 
-pub sent_alone : (core : Core) (seat stream : ℕ) → StreamCounts core → PartCounts core → seat < length core.seats → 1 ≤ by_seat taken core seat stream → parts_sent core stream ≡ parts_by_seat sent core seat stream
-sent_alone core seat stream streams parts inside has =
+pub sent_alone : (core : Core) (seat stream : ℕ) → StreamCounts core → ((k : ℕ) → 1 ≤ parts_by_seat sent core k stream → 1 ≤ by_seat taken core k stream) → seat < length core.seats → 1 ≤ by_seat taken core seat stream → parts_sent core stream ≡ parts_by_seat sent core seat stream
+sent_alone core seat stream streams by_taker inside has =
     parts_sent_is core stream
     ∙ weigh_only (λ (l : SeatLists). weigh (of_stream stream) l.sent) core.seats seat no_seat inside (λ k away.
     elim (cases_lt 0 (parts_by_seat sent core k stream)) [
-      | inl some ↦ absurd (away (one_seat taken core stream k seat refl (taken_at_most_once core streams stream) (parts.sent_by_taker k stream some) has))
+      | inl some ↦ absurd (away (one_seat taken core stream k seat refl (taken_at_most_once core streams stream) (by_taker k some) has))
       | inr none ↦ omega (arith, none)
     ])

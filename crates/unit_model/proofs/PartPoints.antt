@@ -44,7 +44,7 @@ taken_some core counts seat stream has =
 pub sent_count : (core : Core) → StreamCounts core → PartCounts core → (seat : ℕ) (part : Part) → Contains (seat_of core seat).sent part → parts_sent core part.stream ≡ length (sent_parts core seat part.stream)
 sent_count core counts parts seat part here =
     let takes = sender_takes core parts seat part here in
-    sent_alone core seat part.stream counts parts (is_there_of (is_number part.stream) taken core seat refl takes) takes ∙ sym (sent_length core seat part.stream)
+    sent_alone core seat part.stream counts (λ k. parts.sent_by_taker k part.stream) (is_there_of (is_number part.stream) taken core seat refl takes) takes ∙ sym (sent_length core seat part.stream)
 
 -- its number is below that
 pub sent_below : (core : Core) → StreamCounts core → PartCounts core → (seat : ℕ) (part : Part) → Contains (seat_of core seat).sent part → part.number < parts_sent core part.stream

@@ -119,7 +119,7 @@ sends core new seat engine item stream streams shape adds sets may old =
     let grown : (other : ℕ) → parts_sent new other ≡ parts_sent core other + of_stream other part = λ other. omega (arith, parts_sent_is new other, s.all (of_stream other), parts_sent_is core other) in
     let more : parts_sent new stream ≡ m + 1 = omega (arith, grown stream, ap one_if (eq-eqb stream stream refl)) in
     let same : (other : ℕ) → stream ≢ other → parts_sent new other ≡ parts_sent core other = λ other beside. omega (arith, grown other, ap one_if (ne_eqb stream other beside)) in
-    let count : m ≡ length (sent_parts core seat stream) = sent_alone core seat stream streams old adds.inside may.takes ∙ sym (sent_length core seat stream) in
+    let count : m ≡ length (sent_parts core seat stream) = sent_alone core seat stream streams (λ k. old.sent_by_taker k stream) adds.inside may.takes ∙ sym (sent_length core seat stream) in
     let here : sent_parts new seat stream ≡ sent_parts core seat stream ++ part ∷ [] = sent_parts_here core new seat part stream s refl in
     record {
       closed_by_taker = λ k other. omega (arith, c.each k other, t.each k other, old.closed_by_taker k other);

@@ -104,7 +104,7 @@ withdrawn_zero core stream number none =
       | inr not_final ↦ rw not_final refl
     ]
 
-withdrawn_other : (core : Core) (stream number : ℕ) → number + 1 ≢ parts_sent core stream → times_withdrawn core stream number ≡ 0
+pub withdrawn_other : (core : Core) (stream number : ℕ) → number + 1 ≢ parts_sent core stream → times_withdrawn core stream number ≡ 0
 withdrawn_other core stream number other = rw (ne_eqb (number + 1) (parts_sent core stream) other) refl
 
 withdrawn_final : (core : Core) (stream number : ℕ) → number + 1 ≡ parts_sent core stream → times_withdrawn core stream number ≡ by_all closed core stream
@@ -114,7 +114,7 @@ pub one_if_small : (b : Bool) → one_if b ≤ 1
 one_if_small true = omega arith
 one_if_small false = omega arith
 
-carries_past : (stream number : ℕ) (item : Item) → number_in item.part ≢ number → carries stream number item ≡ 0
+pub carries_past : (stream number : ℕ) (item : Item) → number_in item.part ≢ number → carries stream number item ≡ 0
 carries_past stream number item other =
     elim (bool_cases (item.tag == stream)) [
       | inl this ↦ rw this (rw (ne_eqb (number_in item.part) number other) refl)
