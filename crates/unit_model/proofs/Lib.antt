@@ -27,6 +27,7 @@ pub mod PointCounts
 pub mod Running
 pub mod SeatNotes
 pub mod StepFacts
+pub mod StreamClasses
 pub mod StreamFrames
 pub mod StreamLaw
 pub mod StreamPoints

@@ -120,3 +120,8 @@ pub weigh_le_members : {X : Type 0} (f g : X → ℕ) (xs : List X) → ((x : X)
 weigh_le_members f g [] le = omega arith
 weigh_le_members f g (x ∷ xs) le =
     omega (arith, le x (0, omega arith, refl), weigh_le_members f g xs (λ y here. le y (suc (here.0), omega (arith, here.1), here.2)))
+
+pub weigh_members : {X : Type 0} (f g : X → ℕ) (xs : List X) → ((x : X) → Contains xs x → f x ≡ g x) → weigh f xs ≡ weigh g xs
+weigh_members f g [] same = refl
+weigh_members f g (x ∷ xs) same =
+    omega (arith, same x (0, omega arith, refl), weigh_members f g xs (λ y here. same y (later x xs y here)))

@@ -2,13 +2,20 @@
 use Rattle.std.proofs.Common.{List, [], ◌∷◌}
 use Rattle.unit_model.specs.Effects.{after_step}
 use Rattle.unit_model.specs.Holding.{IsHeldRight}
+use Rattle.unit_model.specs.Opening.{opened_core}
 use Rattle.unit_model.specs.PartCounts.{PartCounts}
 use Rattle.unit_model.specs.Running.{AllEnabled, Enabled, after_steps}
+use Rattle.unit_model.specs.Shapes.{IsValid}
+use Rattle.unit_model.specs.SoundStreams.{HasSoundStreams}
 use Rattle.unit_model.specs.StreamCounts.{StreamCounts}
 use Rattle.unit_model.specs.declared.machine.Core.{Core}
 use Rattle.unit_model.specs.declared.machine.Step.{Step}
+use Rattle.unit_model.specs.declared.shape.Shape.{Shape}
+use Rattle.unit_model.proofs.HeldOpening.{opened_holds_right}
 use Rattle.unit_model.proofs.HeldSteps.{step_holds_right}
+use Rattle.unit_model.proofs.OpenedCounts.{parts_at_first, streams_at_first}
 use Rattle.unit_model.proofs.PartLaw.{keeps as keeps_parts}
+use Rattle.unit_model.proofs.PartPoints.{points_of_counts}
 use Rattle.unit_model.proofs.StreamLaw.{keeps as keeps_streams}
 
 kept_by_all : (P : Core → Type 0) → ((core : Core) (step : Step) → P core → Enabled core step → P (after_step core step)) → (core : Core) (steps : List Step) → AllEnabled core steps → P core → P (after_steps core steps)
@@ -33,3 +40,9 @@ keeps_counted core step old met = record {
 pub parts_by_all : (core : Core) (steps : List Step) → AllEnabled core steps → IsHeldRight core → StreamCounts core → PartCounts core → PartCounts (after_steps core steps)
 parts_by_all core steps all held streams parts =
     (kept_by_all Counted keeps_counted core steps all (record { held = held; streams = streams; parts = parts })).parts
+
+pub sound_by_all : (shape : Shape) (steps : List Step) → IsValid shape → AllEnabled (opened_core shape) steps → HasSoundStreams (after_steps (opened_core shape) steps)
+sound_by_all shape steps valid all =
+    let core = opened_core shape in
+    let counted : Counted (after_steps core steps) = kept_by_all Counted keeps_counted core steps all (record { held = opened_holds_right shape valid; streams = streams_at_first shape; parts = parts_at_first shape }) in
+    points_of_counts (after_steps core steps) counted.streams counted.parts

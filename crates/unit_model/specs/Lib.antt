@@ -12,5 +12,6 @@ pub mod Runs
 pub mod Shapes
 pub mod Sound
 pub mod SoundStreams
+pub mod StreamAccount
 pub mod StreamCounts
 pub mod Weights
