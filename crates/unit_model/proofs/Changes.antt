@@ -1,11 +1,11 @@
 -- What stands in a list of which one element has changed, and the sums over it.
-use Rattle.std.proofs.Common.{◌≡◌, ◌≢◌, ℕ, zero, suc, ◌+◌, ◌-◌, ◌<◌, ◌≤◌, Bool, true, false, List, [], ◌∷◌, ◌++◌, ◌&&◌, ◌==◌, length, get_or, set, drop, refl, sym, ap, ◌∙◌, arith, inl, inr, ◌⊎◌}
+use Rattle.std.proofs.Common.{◌≡◌, ◌≢◌, ℕ, zero, suc, ◌+◌, ◌<◌, ◌≤◌, Bool, true, false, List, [], ◌∷◌, ◌++◌, length, get_or, refl, ap, arith, inl, inr, ◌⊎◌}
 use Rattle.std.specs.List.{list_any}
-use Rattle.std.proofs.lemmas.Bool.{cases_eq, cases_lt}
+use Rattle.std.proofs.lemmas.Bool.{cases_lt}
 use Rattle.std.proofs.lemmas.List.Folds.{list_any_at}
 use Rattle.unit_model.specs.Lists.{change_at}
-use Rattle.unit_model.specs.Weights.{weigh, one_if, is_number, times, over_all}
-use Rattle.unit_model.proofs.Weights.{weigh_at, weigh_two, weigh_push, is_number_same, is_number_some}
+use Rattle.unit_model.specs.Weights.{weigh, one_if, over_all}
+use Rattle.unit_model.proofs.Weights.{weigh_two, weigh_push}
 
 -- ---- one element has changed
 

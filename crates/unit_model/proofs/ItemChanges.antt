@@ -1,5 +1,5 @@
 -- The items of the queues after one of them has changed.
-use Rattle.std.proofs.Common.{◌≡◌, ◌≢◌, ℕ, zero, suc, ◌+◌, ◌-◌, ◌<◌, ◌≤◌, List, [], ◌∷◌, length, get_or, set, drop, refl, sym, ap, ◌∙◌, arith, inl, inr, ◌⊎◌, subst}
+use Rattle.std.proofs.Common.{◌≡◌, ◌≢◌, ℕ, zero, suc, ◌+◌, ◌<◌, ◌≤◌, List, [], ◌∷◌, length, get_or, set, drop, refl, sym, ap, ◌∙◌, arith, inl, inr, ◌⊎◌, subst}
 use Rattle.std.proofs.lemmas.Bool.{cases_eq, cases_lt}
 use Rattle.unit_model.specs.Core.{blank, no_queue, queue_of, item_of}
 use Rattle.unit_model.specs.Lists.{change_at}
@@ -8,7 +8,7 @@ use Rattle.unit_model.specs.Weights.{weigh}
 use Rattle.unit_model.specs.declared.machine.Core.{Core}
 use Rattle.unit_model.specs.declared.machine.Item.{Item}
 use Rattle.unit_model.specs.declared.machine.Queue.{Queue}
-use Rattle.unit_model.proofs.Changes.{changed_at, unchanged_at, weigh_changed, weigh_unchanged}
+use Rattle.unit_model.proofs.Changes.{changed_at, unchanged_at, weigh_changed}
 use Rattle.unit_model.proofs.Weights.{weigh-set, weigh_at, weigh_some}
 
 -- the item of the queue is this one now, and no other item has changed

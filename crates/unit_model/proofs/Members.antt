@@ -1,10 +1,10 @@
 -- What is in a list counts there, and what counts there is in it.
-use Rattle.std.proofs.Common.{◌≡◌, ◌≢◌, ℕ, zero, suc, ◌+◌, ◌<◌, ◌≤◌, ◌==◌, Bool, true, false, List, [], ◌∷◌, filter, length, get_or, refl, sym, ap, ◌∙◌, arith, inl, inr, ◌⊎◌, subst}
+use Rattle.std.proofs.Common.{◌≡◌, ℕ, zero, suc, ◌<◌, ◌≤◌, true, List, [], ◌∷◌, filter, length, get_or, refl, sym, ap, ◌∙◌, arith, inl, inr, subst}
 use Rattle.std.specs.Prelude.{Contains}
-use Rattle.std.proofs.lemmas.Bool.{cases_eq, cases_lt, eq-eqb, eqb-true}
+use Rattle.std.proofs.lemmas.Bool.{cases_lt, eq-eqb, eqb-true}
 use Rattle.unit_model.specs.Core.{seat_of, no_seat}
 use Rattle.unit_model.specs.PartCounts.{is_of_stream, of_stream, same_part, no_part}
-use Rattle.unit_model.specs.StreamCounts.{by_seat, by_all}
+use Rattle.unit_model.specs.StreamCounts.{by_all}
 use Rattle.unit_model.specs.Weights.{weigh, one_if, is_number, times, over_all}
 use Rattle.unit_model.specs.declared.machine.Core.{Core}
 use Rattle.unit_model.specs.declared.machine.Part.{Part}
@@ -28,8 +28,8 @@ weight_of_member f (x ∷ xs) d some =
     elim (cases_lt 0 (f x)) [
       | inl here ↦ (x, (0, omega arith, refl), omega (arith, here))
       | inr none ↦
-        let rest = weight_of_member f xs d (omega (arith, none, some)) in
-        (rest.0, (suc (rest.1.0), omega (arith, rest.1.1), rest.1.2), rest.2)
+          let rest = weight_of_member f xs d (omega (arith, none, some)) in
+          (rest.0, (suc (rest.1.0), omega (arith, rest.1.1), rest.1.2), rest.2)
     ]
 
 pub member_counts : (stream : ℕ) (streams : List ℕ) → Contains streams stream → 1 ≤ times stream streams
@@ -88,8 +88,8 @@ part_at_place stream (first ∷ parts) j inside =
     elim (bool_cases (is_of_stream stream first)) [
       | inl passes ↦ rw passes (part_from stream first parts (filter (is_of_stream stream) parts) passes (part_at_place stream parts) j (rw passes at inside))
       | inr fails ↦ rw fails (
-        let rest = part_at_place stream parts j (rw fails at inside) in
-        (later first parts _ rest.0, rest.1))
+          let rest = part_at_place stream parts j (rw fails at inside) in
+          (later first parts _ rest.0, rest.1))
     ]
 
 -- ---- all seats

@@ -1,11 +1,11 @@
 -- The counts of the core as it begins.
-use Rattle.std.proofs.Common.{◌≡◌, ◌≢◌, ℕ, zero, suc, ◌+◌, ◌<◌, ◌≤◌, ◌==◌, ◌&&◌, nat_lt, filter, List, [], ◌∷◌, length, get_or, replicate, drop, refl, sym, ap, ◌∙◌, arith, inl, inr, ◌⊎◌}
+use Rattle.std.proofs.Common.{◌≡◌, ◌≢◌, ℕ, zero, suc, ◌+◌, nat_lt, filter, List, [], length, get_or, replicate, refl, ap, ◌∙◌, arith}
 use Rattle.std.proofs.lemmas.Bool.{ne_eqb, le-ltb}
 use Rattle.unit_model.specs.Conditions.{parts_sent}
-use Rattle.unit_model.specs.Core.{blank, no_queue, no_seat, queue_of, item_of, seat_of}
+use Rattle.unit_model.specs.Core.{blank, no_queue, no_seat, item_of, seat_of}
 use Rattle.unit_model.specs.Opening.{opened_core, fresh_queue}
-use Rattle.unit_model.specs.PartCounts.{PartCounts, is_of_stream, of_stream, carries, over_back_items, parts_by_seat, sent, received, sent_parts, times_sent, times_received, times_under_way, times_withdrawn, same_part, of_number}
-use Rattle.unit_model.specs.StreamCounts.{StreamCounts, by_seat, by_all, drawn, posted, cancelled, abandoned, taken, closed, line_tags}
+use Rattle.unit_model.specs.PartCounts.{PartCounts, is_of_stream, of_stream, carries, over_back_items, sent, received, sent_parts, same_part, of_number}
+use Rattle.unit_model.specs.StreamCounts.{StreamCounts, by_seat, drawn, posted, cancelled, abandoned, taken, closed, line_tags}
 use Rattle.unit_model.specs.Weights.{weigh, one_if, is_number, over_all}
 use Rattle.unit_model.specs.declared.machine.Item.{Item}
 use Rattle.unit_model.specs.declared.machine.Part.{Part}

@@ -1,19 +1,17 @@
 -- Steps that leave the counts of parts as they are.
-use Rattle.std.proofs.Common.{◌≡◌, ◌≢◌, ℕ, zero, suc, ◌+◌, ◌<◌, ◌≤◌, ◌==◌, ◌&&◌, nat_lt, Bool, true, false, if◌then◌else◌, List, [], ◌∷◌, ◌++◌, filter, drop, length, get_or, refl, sym, ap, ◌∙◌, arith, inl, inr, ◌⊎◌, subst}
+use Rattle.std.proofs.Common.{◌≡◌, ◌≢◌, ℕ, ◌+◌, ◌≤◌, nat_lt, List, filter, drop, get_or, refl, sym, ap, ◌∙◌, arith, inl, inr}
 use Rattle.std.proofs.lemmas.Bool.{cases_eq, eq-eqb, ne_eqb}
 use Rattle.unit_model.specs.Conditions.{parts_sent, part_of}
-use Rattle.unit_model.specs.Core.{blank, no_queue, queue_of, item_of, number_in, role_of, seat_of}
-use Rattle.unit_model.specs.PartCounts.{PartCounts, is_of_stream, of_stream, of_number, same_part, parts_by_seat, sent, received, sent_parts, no_part, times_sent, times_received, carries, over_back_items, times_under_way, times_withdrawn}
+use Rattle.unit_model.specs.Core.{blank, no_queue, item_of, number_in, role_of}
+use Rattle.unit_model.specs.PartCounts.{PartCounts, is_of_stream, of_stream, of_number, same_part, sent, received, sent_parts, carries, times_under_way, times_withdrawn}
 use Rattle.unit_model.specs.StreamCounts.{by_seat, by_all, posted, taken, closed}
-use Rattle.unit_model.specs.Weights.{weigh, one_if, over_all}
+use Rattle.unit_model.specs.Weights.{weigh, one_if}
 use Rattle.unit_model.specs.declared.machine.Core.{Core}
 use Rattle.unit_model.specs.declared.machine.Item.{Item}
-use Rattle.unit_model.specs.declared.machine.Part.{Part}
 use Rattle.unit_model.specs.declared.machine.Queue.{Queue}
 use Rattle.unit_model.specs.declared.machine.Seat.{Seat as SeatLists}
 use Rattle.unit_model.specs.declared.machine.Whereabouts.TheVariants.{WithSeat}
-use Rattle.unit_model.proofs.Changes.{bool_cases}
-use Rattle.unit_model.proofs.ItemChanges.{SetsItem, each_item, item_here, item_elsewhere, backs_stay, backs_change}
+use Rattle.unit_model.proofs.ItemChanges.{SetsItem, each_item, item_elsewhere, backs_stay, backs_change}
 use Rattle.unit_model.proofs.PartNotes.{PartsStay, parts_sent_is}
 use Rattle.unit_model.proofs.SeatNotes.{Stays}
 

@@ -1,16 +1,16 @@
 -- An enabled step keeps what holds of the counts of parts.
-use Rattle.std.proofs.Common.{◌≡◌, ◌≢◌, ℕ, zero, suc, ◌+◌, ◌-◌, ◌<◌, ◌≤◌, ◌^◌, ◌==◌, ◌&&◌, ◌||◌, not, nat_lt, nat_le, Bool, true, false, if◌then◌else◌, List, [], ◌∷◌, length, refl, sym, ap, ◌∙◌, arith, inl, inr, ◌⊎◌, subst}
-use Rattle.std.specs.Prelude.{Option, Some, None}
+use Rattle.std.proofs.Common.{◌≡◌, ◌≢◌, ℕ, ◌+◌, ◌-◌, ◌<◌, ◌≤◌, ◌^◌, ◌==◌, ◌&&◌, not, nat_le, Bool, true, false, if◌then◌else◌, List, [], ◌∷◌, length, refl, sym, ap, ◌∙◌, arith, inl, inr, subst}
+use Rattle.std.specs.Prelude.{None}
 use Rattle.std.specs.List.{list_any}
-use Rattle.std.proofs.lemmas.Bool.{and_parts, ltb-true, leb-true, eqb-true, eq-eqb, ne_eqb, cases_eq, cases_lt}
-use Rattle.unit_model.specs.Conditions.{unless, first_unmet, conditions_of, has_stream, is_engine, is_either, may_fill, may_empty, may_use, has_tag, seat_holds, holds, holds_tagged, is_first_free_item, may_arm, may_send, may_settle, may_win_part, is_last_sent, is_closed, parts_sent, part_of, is_same_part}
+use Rattle.std.proofs.lemmas.Bool.{and_parts, leb-true, eqb-true, eq-eqb, ne_eqb, cases_eq}
+use Rattle.unit_model.specs.Conditions.{first_unmet, conditions_of, has_stream, is_either, has_tag, seat_holds, holds, holds_tagged, is_first_free_item, may_arm, may_send, is_last_sent, is_closed, parts_sent, part_of, is_same_part}
 use Rattle.unit_model.specs.Core.{queue_of, item_of, role_of, seat_of, number_in, first_item, whereabouts_code}
 use Rattle.unit_model.specs.Effects.{after_step, noted, with_note, with_item, with_owner, with_run_owner, with_opened, with_in_line, with_free, without_first_free, without_first_in_line}
 use Rattle.unit_model.specs.Holding.{IsHeldRight, HasItsItems, entries_of, has_item, item_in, is_in_free_list, items_of}
 use Rattle.unit_model.specs.PartCounts.{PartCounts, sent, received}
 use Rattle.unit_model.specs.Running.{Enabled}
-use Rattle.unit_model.specs.StreamCounts.{StreamCounts, by_all, by_seat, posted, taken, closed}
-use Rattle.unit_model.specs.Weights.{weigh, one_if, is_number, times, over_all}
+use Rattle.unit_model.specs.StreamCounts.{StreamCounts, by_seat, posted, taken, closed}
+use Rattle.unit_model.specs.Weights.{one_if, is_number, over_all}
 use Rattle.unit_model.specs.declared.machine.Core.{Core}
 use Rattle.unit_model.specs.declared.machine.Entry.{Entry}
 use Rattle.unit_model.specs.declared.machine.Item.{Item}
@@ -31,11 +31,11 @@ use Rattle.unit_model.proofs.PartFrames.{SameBacks, Rises, backs_with_queues, ba
 use Rattle.unit_model.proofs.PartNotes.{parts_stay, all_parts_stay}
 use Rattle.unit_model.proofs.PartSending.{MaySend, sends}
 use Rattle.unit_model.proofs.PartSteps.{receives, withdraws}
-use Rattle.unit_model.proofs.SeatNotes.{Adds, Stays, Grows, stays, all_stays, grows, rises, has_counts, has_not_counts}
+use Rattle.unit_model.proofs.SeatNotes.{Adds, Grows, stays, all_stays, grows, rises, has_counts, has_not_counts}
 use Rattle.unit_model.proofs.StepFacts as facts
 use Rattle.unit_model.proofs.StreamLaw.{not_true, settling}
 use Rattle.unit_model.proofs.StreamSteps.{drawn_some}
-use Rattle.unit_model.proofs.Weights.{is_number_same, weigh_at}
+use Rattle.unit_model.proofs.Weights.{is_number_same}
 
 -- ---- what is held right
 

@@ -1,5 +1,5 @@
 -- The sent parts of one stream after one more was sent.
-use Rattle.std.proofs.Common.{◌≡◌, ◌≢◌, ℕ, zero, suc, ◌+◌, ◌<◌, ◌≤◌, ◌==◌, ◌&&◌, ◌||◌, Bool, true, false, List, [], ◌∷◌, ◌++◌, filter, length, get_or, refl, sym, ap, ◌∙◌, arith, inl, inr, ◌⊎◌}
+use Rattle.std.proofs.Common.{◌≡◌, ◌≢◌, ℕ, zero, suc, ◌+◌, ◌<◌, ◌≤◌, ◌==◌, ◌&&◌, ◌||◌, Bool, true, false, List, [], ◌∷◌, ◌++◌, filter, length, get_or, refl, ap, ◌∙◌, arith, inl, inr, ◌⊎◌}
 use Rattle.std.specs.List.{list_any}
 use Rattle.std.proofs.Math.Seq.{get_or-append_seam}
 use Rattle.std.proofs.lemmas.Bool.{cases_eq, cases_lt, eq-eqb, ne_eqb}
@@ -7,9 +7,9 @@ use Rattle.std.proofs.lemmas.List.{get_or_append_left}
 use Rattle.std.proofs.lemmas.List.Elements.{filter-append}
 use Rattle.unit_model.specs.Conditions.{is_last_sent, parts_sent}
 use Rattle.unit_model.specs.Core.{seat_of, no_seat}
-use Rattle.unit_model.specs.PartCounts.{PartCounts, is_of_stream, of_stream, parts_by_seat, sent, sent_parts, no_part}
-use Rattle.unit_model.specs.StreamCounts.{StreamCounts, by_seat, by_all, posted, taken}
-use Rattle.unit_model.specs.Weights.{weigh, one_if}
+use Rattle.unit_model.specs.PartCounts.{is_of_stream, of_stream, parts_by_seat, sent, sent_parts, no_part}
+use Rattle.unit_model.specs.StreamCounts.{StreamCounts, by_seat, by_all, taken}
+use Rattle.unit_model.specs.Weights.{weigh}
 use Rattle.unit_model.specs.declared.machine.Core.{Core}
 use Rattle.unit_model.specs.declared.machine.Part.{Part}
 use Rattle.unit_model.specs.declared.machine.Seat.{Seat as SeatLists}

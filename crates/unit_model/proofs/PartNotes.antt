@@ -1,20 +1,19 @@
 -- The counts of parts over the seats after one seat has added a note.
-use Rattle.std.proofs.Common.{◌≡◌, ◌≢◌, ℕ, zero, suc, ◌+◌, ◌<◌, ◌≤◌, ◌==◌, ◌&&◌, Bool, true, false, cond, if◌then◌else◌, not, List, [], ◌∷◌, ◌++◌, filter, length, get_or, refl, sym, ap, ◌∙◌, arith, inl, inr, ◌⊎◌}
+use Rattle.std.proofs.Common.{◌≡◌, ◌≢◌, ℕ, ◌+◌, ◌≤◌, ◌==◌, ◌&&◌, Bool, true, false, cond, if◌then◌else◌, not, List, [], ◌∷◌, ◌++◌, length, get_or, refl, sym, ap, ◌∙◌, arith, inl, inr, ◌⊎◌}
 use Rattle.std.specs.Prelude.{count_by}
-use Rattle.std.specs.List.{list_any}
-use Rattle.std.proofs.lemmas.Bool.{cases_eq, cases_lt, and_parts, eqb-true, eq-eqb, ne_eqb}
+use Rattle.std.proofs.lemmas.Bool.{cases_eq, cases_lt, and_parts, eqb-true, eq-eqb}
 use Rattle.std.proofs.lemmas.List.Recursion.{is_count_by}
 use Rattle.std.proofs.lemmas.List.Sums.{length-filter}
-use Rattle.unit_model.specs.Conditions.{has_stream, parts_sent, is_same_part}
+use Rattle.unit_model.specs.Conditions.{parts_sent, is_same_part}
 use Rattle.unit_model.specs.Core.{seat_of, no_seat}
 use Rattle.unit_model.specs.Effects.{noted}
-use Rattle.unit_model.specs.PartCounts.{is_of_stream, of_stream, of_number, same_part, parts_by_seat, sent, received, sent_parts, no_part, times_sent, times_received}
+use Rattle.unit_model.specs.PartCounts.{is_of_stream, of_stream, same_part, parts_by_seat, sent, sent_parts}
 use Rattle.unit_model.specs.Weights.{weigh, one_if, over_all}
 use Rattle.unit_model.specs.declared.machine.Core.{Core}
 use Rattle.unit_model.specs.declared.machine.Note.{Note}
 use Rattle.unit_model.specs.declared.machine.Part.{Part}
 use Rattle.unit_model.specs.declared.machine.Seat.{Seat as SeatLists}
-use Rattle.unit_model.proofs.Changes.{changed_at, unchanged_at, part_stays, over_all_changed, over_all_grown, bool_cases}
+use Rattle.unit_model.proofs.Changes.{changed_at, unchanged_at, part_stays, over_all_changed, over_all_grown}
 use Rattle.unit_model.proofs.SeatNotes.{Adds}
 use Rattle.unit_model.proofs.Weights.{weigh_push}
 

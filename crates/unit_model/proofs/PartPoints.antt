@@ -1,28 +1,26 @@
 -- What the counts of parts say, point by point.
-use Rattle.std.proofs.Common.{◌≡◌, ◌≢◌, ℕ, zero, suc, ◌+◌, ◌-◌, ◌<◌, ◌≤◌, ◌==◌, ◌&&◌, nat_lt, Bool, true, false, List, [], ◌∷◌, filter, length, get_or, refl, sym, ap, ◌∙◌, arith, inl, inr, ◌⊎◌, subst}
+use Rattle.std.proofs.Common.{◌≡◌, ◌≢◌, ℕ, suc, ◌+◌, ◌-◌, ◌<◌, ◌≤◌, ◌==◌, ◌&&◌, nat_lt, true, false, List, [], ◌∷◌, length, get_or, refl, sym, ap, ◌∙◌, arith, inl, inr, subst}
 use Rattle.std.specs.Prelude.{Contains}
 use Rattle.std.proofs.lemmas.Bool.{cases_eq, cases_lt, eq-eqb, ne_eqb, lt-ltb, and_parts, eqb-true}
-use Rattle.unit_model.specs.Conditions.{parts_sent, part_of}
+use Rattle.unit_model.specs.Conditions.{parts_sent}
 use Rattle.unit_model.specs.Core.{blank, queue_of, item_of, number_in, seat_of, no_seat}
 use Rattle.unit_model.specs.Holding.{IsArmed}
-use Rattle.unit_model.specs.PartCounts.{PartCounts, is_of_stream, of_stream, of_number, same_part, sent, received, sent_parts, no_part, parts_by_seat, carries, over_back_items, times_sent, times_received, times_under_way, times_withdrawn}
-use Rattle.unit_model.specs.SoundStreams.{HasSoundStreams, WasSent, IsTaken, part_in, last_of, NoPartTwice, ReceivedOnce, SentInOrder, SentIsSomewhere}
-use Rattle.unit_model.specs.StreamCounts.{StreamCounts, by_seat, by_all, drawn, posted, taken, closed}
-use Rattle.unit_model.specs.Weights.{weigh, one_if, is_number, times, over_all}
+use Rattle.unit_model.specs.PartCounts.{PartCounts, of_number, same_part, sent, received, sent_parts, no_part, carries, times_sent, times_received}
+use Rattle.unit_model.specs.SoundStreams.{HasSoundStreams, WasSent, part_in, last_of, NoPartTwice, ReceivedOnce, SentInOrder, SentIsSomewhere}
+use Rattle.unit_model.specs.StreamCounts.{StreamCounts, by_seat, taken, closed}
+use Rattle.unit_model.specs.Weights.{weigh, one_if, is_number, over_all}
 use Rattle.unit_model.specs.declared.machine.Core.{Core}
-use Rattle.unit_model.specs.declared.machine.Item.{Item}
 use Rattle.unit_model.specs.declared.machine.Part.{Part}
 use Rattle.unit_model.specs.declared.machine.Seat.{Seat as SeatLists}
 use Rattle.unit_model.proofs.Changes.{bool_cases, weigh_one}
 use Rattle.unit_model.proofs.ItemChanges.{back_queue_in_all}
-use Rattle.unit_model.proofs.Members.{member_counts, counted_member, counted_seat, counts_in_all, part_counts, counted_part, part_of_stream, place_of, weight_of_seat, weighs_in_all, weigh_le_members}
+use Rattle.unit_model.proofs.Members.{member_counts, counted_member, part_of_stream, place_of, weight_of_seat, weighs_in_all, weigh_le_members}
 use Rattle.unit_model.proofs.PartFrames.{carries_this}
 use Rattle.unit_model.proofs.PartLists.{sent_alone, taken_at_most_once}
 use Rattle.unit_model.proofs.PartNotes.{sent_length, one_itself}
-use Rattle.unit_model.proofs.PartSteps.{counted_is, of_this, one_if_small}
+use Rattle.unit_model.proofs.PartSteps.{counted_is, one_if_small}
 use Rattle.unit_model.proofs.SeatNotes.{is_there_of, all_less, one_seat, seat_in_all}
 use Rattle.unit_model.proofs.StreamPoints.{armed_inside, state_is_posted, posted_some, no_request_twice, part_is_poster, taken_or_cancelled, drawn_in_order, posted_once, abandoned_once}
-use Rattle.unit_model.proofs.Weights.{is_number_same, weigh_le}
 
 -- ---- sent parts
 
@@ -85,10 +83,10 @@ received_once core counts parts stream number =
       | inl none ↦ elim (cases_lt 0 (times_received core stream number)) [
         | inr no_part ↦ omega (arith, no_part)
         | inl some ↦
-          let found = weight_of_seat (of_number stream number) received core no_part (omega (arith, some)) in
-          let this : (found.1).stream ≡ stream = numbered_stream stream number found.1 found.3 in
-          let sent_it = received_was_sent core parts (found.0) found.1 found.2 in
-          absurd (taken_some core counts (sent_it.0) (found.1).stream (sender_takes core parts (sent_it.0) found.1 sent_it.1) (this ∙ none))
+            let found = weight_of_seat (of_number stream number) received core no_part (omega (arith, some)) in
+            let this : (found.1).stream ≡ stream = numbered_stream stream number found.1 found.3 in
+            let sent_it = received_was_sent core parts (found.0) found.1 found.2 in
+            absurd (taken_some core counts (sent_it.0) (found.1).stream (sender_takes core parts (sent_it.0) found.1 sent_it.1) (this ∙ none))
       ]
     ]
 
@@ -98,12 +96,12 @@ last_is_number core counts parts seat stream part here =
     elim (bool_cases (part.stream == stream && part.last)) [
       | inr other ↦ omega (arith, ap one_if other)
       | inl last ↦
-        let tests = and_parts (part.stream == stream) part.last last in
-        let this : part.stream ≡ stream = eqb-true part.stream stream tests.0 in
-        let sent_it = received_was_sent core parts seat part here in
-        let final = last_sent_final core counts parts (sent_it.0) part sent_it.1 tests.1 in
-        let number : part.number ≡ parts_sent core stream - 1 = omega (arith, final, ap (parts_sent core) this) in
-        omega (arith, one_if_small (part.stream == stream && part.last), numbered stream (parts_sent core stream - 1) part this number)
+          let tests = and_parts (part.stream == stream) part.last last in
+          let this : part.stream ≡ stream = eqb-true part.stream stream tests.0 in
+          let sent_it = received_was_sent core parts seat part here in
+          let final = last_sent_final core counts parts (sent_it.0) part sent_it.1 tests.1 in
+          let number : part.number ≡ parts_sent core stream - 1 = omega (arith, final, ap (parts_sent core) this) in
+          omega (arith, one_if_small (part.stream == stream && part.last), numbered stream (parts_sent core stream - 1) part this number)
     ]
 
 seats_le : (f g : Part → ℕ) (seats : List SeatLists) → ((seat : ℕ) (part : Part) → Contains (get_or seats seat no_seat).received part → f part ≤ g part) → over_all f received seats ≤ over_all g received seats
@@ -115,10 +113,10 @@ pub received_one : (core : Core) → StreamCounts core → PartCounts core → R
 received_one core counts parts = record {
   once = received_once core counts parts;
   one_last = λ stream.
-    omega (arith, received_once core counts parts stream (parts_sent core stream - 1), seats_le (last_of stream) (of_number stream (parts_sent core stream - 1)) core.seats (λ k part here. last_is_number core counts parts k stream part here));
+      omega (arith, received_once core counts parts stream (parts_sent core stream - 1), seats_le (last_of stream) (of_number stream (parts_sent core stream - 1)) core.seats (λ k part here. last_is_number core counts parts k stream part here));
   received_is_taken = λ seat part here.
-    let sent_it = received_was_sent core parts seat part here in
-    (sent_it.0, counted_member part.stream (seat_of core (sent_it.0)).taken (sender_takes core parts (sent_it.0) part sent_it.1));
+      let sent_it = received_was_sent core parts seat part here in
+      (sent_it.0, counted_member part.stream (seat_of core (sent_it.0)).taken (sender_takes core parts (sent_it.0) part sent_it.1));
 }
 
 -- ---- parts under way
@@ -149,16 +147,16 @@ sent_is_somewhere core counts parts = record {
   received = received_was_sent core parts;
   by_poster = λ seat part here. counted_member part.stream (seat_of core seat).posted (parts.received_by_poster seat part.stream (part_of_stream part (seat_of core seat).received here));
   one_state = λ seat part here.
-    let some = taken_some core counts seat part.stream (sender_takes core parts seat part here) in
-    omega (arith, parts.one_state part.stream part.number some, ap one_if (lt-ltb part.number (parts_sent core part.stream) (sent_below core counts parts seat part here)));
+      let some = taken_some core counts seat part.stream (sender_takes core parts seat part here) in
+      omega (arith, parts.one_state part.stream part.number some, ap one_if (lt-ltb part.number (parts_sent core part.stream) (sent_below core counts parts seat part here)));
   closed_once = λ stream. omega (arith, all_less closed taken core stream (λ k. parts.closed_by_taker k stream), taken_at_most_once core counts stream);
   closed_by_taker = λ seat stream here. counted_member stream (seat_of core seat).taken (omega (arith, member_counts stream (seat_of core seat).closed here, parts.closed_by_taker seat stream));
   held_is_own = λ seat engine item worker held armed.
-    let part = part_in core (1 + engine) item in
-    let sent_it = sent_somewhere core part (parts.under_way_was_sent engine item armed) in
-    let takes = parts.sent_by_taker seat part.stream (parts.held_is_own seat engine item worker held armed) in
-    let same : sent_it.0 ≡ seat = one_seat taken core part.stream (sent_it.0) seat refl (taken_at_most_once core counts part.stream) (sender_takes core parts (sent_it.0) part sent_it.1) takes in
-    subst (λ k. Contains (seat_of core k).sent part) same sent_it.1;
+      let part = part_in core (1 + engine) item in
+      let sent_it = sent_somewhere core part (parts.under_way_was_sent engine item armed) in
+      let takes = parts.sent_by_taker seat part.stream (parts.held_is_own seat engine item worker held armed) in
+      let same : sent_it.0 ≡ seat = one_seat taken core part.stream (sent_it.0) seat refl (taken_at_most_once core counts part.stream) (sender_takes core parts (sent_it.0) part sent_it.1) takes in
+      subst (λ k. Contains (seat_of core k).sent part) same sent_it.1;
   held_is_final = parts.held_is_final;
 }
 

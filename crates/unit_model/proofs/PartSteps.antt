@@ -1,27 +1,22 @@
 -- The counts of parts after a part is sent, received, or taken back.
-use Rattle.std.proofs.Common.{◌≡◌, ◌≢◌, ℕ, zero, suc, ◌+◌, ◌<◌, ◌≤◌, ◌==◌, ◌&&◌, nat_lt, Bool, true, false, if◌then◌else◌, List, [], ◌∷◌, ◌++◌, filter, length, get_or, refl, sym, ap, ◌∙◌, arith, inl, inr, ◌⊎◌, subst}
-use Rattle.std.specs.List.{list_any}
-use Rattle.std.proofs.lemmas.Bool.{cases_eq, cases_lt, eq-eqb, ne_eqb, lt-ltb, ltb-false, le-ltb}
-use Rattle.std.proofs.lemmas.List.Folds.{list_any_at}
-use Rattle.unit_model.specs.Conditions.{parts_sent, part_of, is_last_sent, is_same_part, holds_tagged}
-use Rattle.unit_model.specs.Core.{blank, queue_of, item_of, number_in, is_last_in, role_of, seat_of, whereabouts_code}
-use Rattle.unit_model.specs.PartCounts.{PartCounts, is_of_stream, of_stream, of_number, same_part, parts_by_seat, sent, received, sent_parts, no_part, times_sent, times_received, carries, over_back_items, times_under_way, times_withdrawn}
-use Rattle.unit_model.specs.StreamCounts.{StreamCounts, by_seat, by_all, drawn, posted, taken, closed}
-use Rattle.unit_model.specs.Weights.{weigh, one_if, is_number, over_all}
+use Rattle.std.proofs.Common.{◌≡◌, ◌≢◌, ℕ, ◌+◌, ◌≤◌, ◌==◌, nat_lt, Bool, true, false, filter, refl, sym, ap, ◌∙◌, arith, inl, inr}
+use Rattle.std.proofs.lemmas.Bool.{cases_eq, cases_lt, eq-eqb, ne_eqb}
+use Rattle.unit_model.specs.Conditions.{parts_sent, part_of, is_same_part}
+use Rattle.unit_model.specs.Core.{blank, item_of, number_in, role_of}
+use Rattle.unit_model.specs.PartCounts.{PartCounts, is_of_stream, of_stream, of_number, same_part, parts_by_seat, sent, received, sent_parts, times_sent, carries, times_under_way, times_withdrawn}
+use Rattle.unit_model.specs.StreamCounts.{StreamCounts, by_seat, by_all, posted, taken, closed}
+use Rattle.unit_model.specs.Weights.{one_if, is_number, over_all}
 use Rattle.unit_model.specs.declared.machine.Core.{Core}
 use Rattle.unit_model.specs.declared.machine.Item.{Item}
-use Rattle.unit_model.specs.declared.machine.Note.TheVariants.{Sent, Received, Closed}
+use Rattle.unit_model.specs.declared.machine.Note.TheVariants.{Received, Closed}
 use Rattle.unit_model.specs.declared.machine.Part.{Part}
-use Rattle.unit_model.specs.declared.machine.Seat.{Seat as SeatLists}
-use Rattle.unit_model.specs.declared.machine.Whereabouts.{Whereabouts}
 use Rattle.unit_model.specs.declared.machine.Whereabouts.TheVariants.{WithSeat}
 use Rattle.unit_model.proofs.Changes.{bool_cases}
 use Rattle.unit_model.proofs.ItemChanges.{SetsItem, each_item, backs_change, back_item_in_all}
 use Rattle.unit_model.proofs.PartFrames.{carries_none, carries_other, carries_this, same_withdrawn, sent_stays}
-use Rattle.unit_model.proofs.PartLists.{push_length, ordered_push, final_push, sent_parts_here, sent_parts_other, none_last, sent_alone, taken_at_most_once}
-use Rattle.unit_model.proofs.PartNotes.{PartsStay, PartsGrow, parts_stay, parts_grow, parts_here, parts_rise, parts_before, parts_sent_is, sent_length, same_is, one_itself}
-use Rattle.unit_model.proofs.SeatNotes.{Adds, Stays, Grows, stays, grows, seat_in_all, one_seat}
-use Rattle.unit_model.proofs.StreamSteps.{posted_at_most_once, drawn_some, stays_within}
+use Rattle.unit_model.proofs.PartNotes.{PartsStay, PartsGrow, parts_stay, parts_grow, parts_before, same_is}
+use Rattle.unit_model.proofs.SeatNotes.{Adds, Stays, Grows, stays, grows, seat_in_all}
+use Rattle.unit_model.proofs.StreamSteps.{stays_within}
 use Rattle.unit_model.proofs.Weights.{is_number_same, is_number_other}
 
 -- ---- a part is received

@@ -1,14 +1,14 @@
 -- The points on streams and parts say the counts.
-use Rattle.std.proofs.Common.{◌≡◌, ◌≢◌, ℕ, zero, suc, ◌+◌, ◌-◌, ◌<◌, ◌≤◌, ◌==◌, ◌&&◌, nat_lt, Bool, true, false, List, [], ◌∷◌, filter, length, get_or, refl, sym, ap, ◌∙◌, arith, inl, inr, ◌⊎◌, subst}
+use Rattle.std.proofs.Common.{◌≡◌, ◌≢◌, ℕ, ◌+◌, ◌<◌, ◌≤◌, ◌==◌, ◌&&◌, nat_lt, false, List, [], length, get_or, refl, sym, ap, ◌∙◌, arith, inl, inr}
 use Rattle.std.specs.Prelude.{Contains}
 use Rattle.std.proofs.lemmas.Bool.{cases_eq, cases_lt, eq-eqb, ne_eqb, lt-ltb, le-ltb}
-use Rattle.unit_model.specs.Conditions.{parts_sent, part_of}
+use Rattle.unit_model.specs.Conditions.{parts_sent}
 use Rattle.unit_model.specs.Core.{blank, queue_of, item_of, number_in, seat_of, no_seat}
 use Rattle.unit_model.specs.Holding.{IsArmed}
-use Rattle.unit_model.specs.PartCounts.{PartCounts, is_of_stream, of_stream, of_number, same_part, sent, received, sent_parts, no_part, parts_by_seat, carries, over_back_items, times_sent, times_received, times_under_way, times_withdrawn}
+use Rattle.unit_model.specs.PartCounts.{PartCounts, of_stream, of_number, same_part, sent, received, sent_parts, no_part, parts_by_seat, carries, times_sent, times_received, times_under_way, times_withdrawn}
 use Rattle.unit_model.specs.SoundStreams.{HasSoundStreams, IsPosted, IsInNone, WasSent, part_in}
 use Rattle.unit_model.specs.StreamCounts.{StreamCounts, by_seat, by_all, drawn, posted, cancelled, abandoned, taken, closed, line_tags}
-use Rattle.unit_model.specs.Weights.{weigh, one_if, is_number, times, over_all}
+use Rattle.unit_model.specs.Weights.{one_if, is_number, times, over_all}
 use Rattle.unit_model.specs.declared.machine.Core.{Core}
 use Rattle.unit_model.specs.declared.machine.Item.{Item}
 use Rattle.unit_model.specs.declared.machine.Part.{Part}
@@ -46,10 +46,10 @@ unposted_tag core stream points some none =
     elim (cases_lt 0 (line_tags core stream)) [
       | inr no_tag ↦ omega (arith, no_tag)
       | inl tagged ↦
-        let item = weigh_some (λ i. is_number stream i.tag) (queue_of core 0).items blank tagged in
-        let tag : (item_of core 0 (item.0)).tag ≡ stream = is_number_some stream _ item.2 in
-        let armed : IsArmed core 0 (item.0) = λ zero_tag. some (sym tag ∙ zero_tag) in
-        absurd (omega (arith, none, ap (by_all posted core) tag, posted_counts core _ (points.posted.tag_is_posted (item.0) armed)))
+          let item = weigh_some (λ i. is_number stream i.tag) (queue_of core 0).items blank tagged in
+          let tag : (item_of core 0 (item.0)).tag ≡ stream = is_number_some stream _ item.2 in
+          let armed : IsArmed core 0 (item.0) = λ zero_tag. some (sym tag ∙ zero_tag) in
+          absurd (omega (arith, none, ap (by_all posted core) tag, posted_counts core _ (points.posted.tag_is_posted (item.0) armed)))
     ]
 
 unposted_taken : (core : Core) (stream : ℕ) → HasSoundStreams core → by_all posted core stream ≡ 0 → by_all taken core stream ≡ 0
@@ -57,8 +57,8 @@ unposted_taken core stream points none =
     elim (cases_lt 0 (by_all taken core stream)) [
       | inr no_seat ↦ omega (arith, no_seat)
       | inl some ↦
-        let found = counted_seat taken core stream (omega (arith, some)) in
-        absurd (omega (arith, none, posted_counts core stream (points.posted.taken_is_posted (found.0) stream found.1)))
+          let found = counted_seat taken core stream (omega (arith, some)) in
+          absurd (omega (arith, none, posted_counts core stream (points.posted.taken_is_posted (found.0) stream found.1)))
     ]
 
 unposted_cancelled : (core : Core) (stream : ℕ) → HasSoundStreams core → by_all posted core stream ≡ 0 → by_all cancelled core stream ≡ 0
@@ -66,8 +66,8 @@ unposted_cancelled core stream points none =
     elim (cases_lt 0 (by_all cancelled core stream)) [
       | inr no_seat ↦ omega (arith, no_seat)
       | inl some ↦
-        let found = counted_seat cancelled core stream (omega (arith, some)) in
-        absurd (omega (arith, none, counts_in_all posted core (found.0) stream refl (points.posted.cancelled_by_poster (found.0) stream found.1)))
+          let found = counted_seat cancelled core stream (omega (arith, some)) in
+          absurd (omega (arith, none, counts_in_all posted core (found.0) stream refl (points.posted.cancelled_by_poster (found.0) stream found.1)))
     ]
 
 one_state_of : (core : Core) (stream : ℕ) → HasSoundStreams core → stream ≢ 0 → line_tags core stream + by_all taken core stream + by_all cancelled core stream ≡ by_all posted core stream
@@ -75,8 +75,8 @@ one_state_of core stream points some =
     elim (cases_lt 0 (by_all posted core stream)) [
       | inl has ↦ omega (arith, has, points.posted.once stream, points.posted.one_state stream (counted_seat posted core stream (omega (arith, has))))
       | inr none ↦
-        let zero_posted : by_all posted core stream ≡ 0 = omega (arith, none) in
-        omega (arith, zero_posted, unposted_tag core stream points some zero_posted, unposted_taken core stream points zero_posted, unposted_cancelled core stream points zero_posted)
+          let zero_posted : by_all posted core stream ≡ 0 = omega (arith, none) in
+          omega (arith, zero_posted, unposted_tag core stream points some zero_posted, unposted_taken core stream points zero_posted, unposted_cancelled core stream points zero_posted)
     ]
 
 abandoned_taken : (core : Core) (stream : ℕ) → HasSoundStreams core → by_all abandoned core stream ≤ by_all taken core stream
@@ -84,9 +84,9 @@ abandoned_taken core stream points =
     elim (cases_lt 0 (by_all abandoned core stream)) [
       | inr none ↦ omega (arith, none)
       | inl some ↦
-        let found = counted_seat abandoned core stream (omega (arith, some)) in
-        let is_taken = points.abandoned.abandoned_is_taken (found.0) stream found.1 in
-        omega (arith, some, points.abandoned.once stream, counts_in_all taken core (is_taken.0) stream refl is_taken.1)
+          let found = counted_seat abandoned core stream (omega (arith, some)) in
+          let is_taken = points.abandoned.abandoned_is_taken (found.0) stream found.1 in
+          omega (arith, some, points.abandoned.once stream, counts_in_all taken core (is_taken.0) stream refl is_taken.1)
     ]
 
 pub streams_of_points : (core : Core) → length core.seats ≡ core.shape.engines + core.shape.workers → 1 ≤ core.next → HasSoundStreams core → StreamCounts core
@@ -162,13 +162,13 @@ none_under_way core counts points stream number some past =
     elim (cases_lt 0 (times_under_way core stream number)) [
       | inr none ↦ omega (arith, none)
       | inl counted ↦
-        let found = back_item_of_weight (carries stream number) core (omega (arith, counted)) in
-        let engine : ℕ = found.0 in
-        let item : ℕ = found.1 in
-        let is = carries_is stream number (item_of core (1 + engine) item) found.2 in
-        let armed : IsArmed core (1 + engine) item = λ none. some (sym is.0 ∙ none) in
-        let below = below_count core counts points (part_in core (1 + engine) item) (points.somewhere.under_way engine item armed) in
-        absurd (omega (arith, past, below, is.1, ap (parts_sent core) is.0))
+          let found = back_item_of_weight (carries stream number) core (omega (arith, counted)) in
+          let engine : ℕ = found.0 in
+          let item : ℕ = found.1 in
+          let is = carries_is stream number (item_of core (1 + engine) item) found.2 in
+          let armed : IsArmed core (1 + engine) item = λ none. some (sym is.0 ∙ none) in
+          let below = below_count core counts points (part_in core (1 + engine) item) (points.somewhere.under_way engine item armed) in
+          absurd (omega (arith, past, below, is.1, ap (parts_sent core) is.0))
     ]
 
 number_of : (stream number : ℕ) (part : Part) → 1 ≤ of_number stream number part → part.number ≡ number
@@ -176,8 +176,8 @@ number_of stream number part some =
     elim (cases_eq part.number number) [
       | inl is ↦ is
       | inr other ↦ absurd (let this = numbered_stream stream number part some in
-        let fails : (part.stream == stream && part.number == number) ≡ false = rw (eq-eqb part.stream stream this) (ne_eqb part.number number other) in
-        omega (arith, some, ap one_if fails))
+          let fails : (part.stream == stream && part.number == number) ≡ false = rw (eq-eqb part.stream stream this) (ne_eqb part.number number other) in
+          omega (arith, some, ap one_if fails))
     ]
 
 none_received : (core : Core) → StreamCounts core → HasSoundStreams core → (stream number : ℕ) → parts_sent core stream ≤ number → times_received core stream number ≡ 0
@@ -185,21 +185,21 @@ none_received core counts points stream number past =
     elim (cases_lt 0 (times_received core stream number)) [
       | inr none ↦ omega (arith, none)
       | inl counted ↦
-        let found = weight_of_seat (of_number stream number) received core no_part (omega (arith, counted)) in
-        let this : (found.1).stream ≡ stream = numbered_stream stream number found.1 found.3 in
-        let below = below_count core counts points found.1 (points.somewhere.received (found.0) found.1 found.2) in
-        absurd (omega (arith, past, below, number_of stream number found.1 found.3, ap (parts_sent core) this))
+          let found = weight_of_seat (of_number stream number) received core no_part (omega (arith, counted)) in
+          let this : (found.1).stream ≡ stream = numbered_stream stream number found.1 found.3 in
+          let below = below_count core counts points found.1 (points.somewhere.received (found.0) found.1 found.2) in
+          absurd (omega (arith, past, below, number_of stream number found.1 found.3, ap (parts_sent core) this))
     ]
 
 part_state : (core : Core) → StreamCounts core → HasSoundStreams core → (stream number : ℕ) → stream ≢ 0 → times_under_way core stream number + times_received core stream number + times_withdrawn core stream number ≡ one_if (nat_lt number (parts_sent core stream))
 part_state core counts points stream number some =
     elim (cases_lt number (parts_sent core stream)) [
       | inl below ↦
-        let found = sent_with core counts points stream number below in
-        let state = points.somewhere.one_state (found.0) found.1 found.2 in
-        rw found.3 at (rw found.4 at state) ∙ sym (ap one_if (lt-ltb number (parts_sent core stream) below))
+          let found = sent_with core counts points stream number below in
+          let state = points.somewhere.one_state (found.0) found.1 found.2 in
+          rw found.3 at (rw found.4 at state) ∙ sym (ap one_if (lt-ltb number (parts_sent core stream) below))
       | inr past ↦
-        omega (arith, none_under_way core counts points stream number some past, none_received core counts points stream number past, withdrawn_other core stream number (omega (arith, past)), ap one_if (le-ltb number (parts_sent core stream) past))
+          omega (arith, none_under_way core counts points stream number some past, none_received core counts points stream number past, withdrawn_other core stream number (omega (arith, past)), ap one_if (le-ltb number (parts_sent core stream) past))
     ]
 
 was_sent_counts : (core : Core) (part : Part) → WasSent core part → 1 ≤ times_sent core part

@@ -1,18 +1,17 @@
 -- The counts of streams over the seats after one seat has added a note.
-use Rattle.std.proofs.Common.{◌≡◌, ◌≢◌, ℕ, zero, suc, ◌+◌, ◌<◌, ◌≤◌, ◌==◌, Bool, true, false, List, [], ◌∷◌, ◌++◌, length, get_or, refl, sym, ap, ◌∙◌, arith, inl, inr}
-use Rattle.std.specs.List.{list_any}
+use Rattle.std.proofs.Common.{◌≡◌, ◌≢◌, ℕ, zero, suc, ◌+◌, ◌<◌, ◌≤◌, ◌==◌, true, false, List, [], ◌∷◌, ◌++◌, length, get_or, refl, ap, ◌∙◌, arith, inl, inr}
 use Rattle.std.proofs.lemmas.Bool.{cases_eq, cases_lt}
 use Rattle.unit_model.specs.Conditions.{has_stream}
 use Rattle.unit_model.specs.Core.{seat_of, no_seat}
 use Rattle.unit_model.specs.Effects.{noted}
 use Rattle.unit_model.specs.Lists.{change_at}
 use Rattle.unit_model.specs.StreamCounts.{by_seat, by_all}
-use Rattle.unit_model.specs.Weights.{weigh, one_if, is_number, times, over_all}
+use Rattle.unit_model.specs.Weights.{weigh, is_number, times, over_all}
 use Rattle.unit_model.specs.declared.machine.Core.{Core}
 use Rattle.unit_model.specs.declared.machine.Note.{Note}
 use Rattle.unit_model.specs.declared.machine.Seat.{Seat as SeatLists}
 use Rattle.unit_model.proofs.Changes.{changed_at, unchanged_at, part_stays, over_all_changed, over_all_grown, any_counts, none_counts, weigh_one, weigh_le_each, weigh_le_at}
-use Rattle.unit_model.proofs.Weights.{weigh_push, weigh_at, over_all_at}
+use Rattle.unit_model.proofs.Weights.{weigh_push, over_all_at}
 
 -- the seat has added the note, and no other seat's lists have changed
 pub record Adds (core new : Core) (seat : ℕ) (note : Note) : Type 0 where

@@ -1,25 +1,23 @@
 -- What the conditions of a step say, and what its effect is on seats and items.
-use Rattle.std.proofs.Common.{◌≡◌, ◌≢◌, ℕ, zero, suc, ◌+◌, ◌<◌, ◌≤◌, ◌-◌, ◌^◌, ◌==◌, ◌&&◌, not, nat_lt, nat_le, Bool, true, false, if◌then◌else◌, List, [], ◌∷◌, ◌++◌, length, get_or, set, drop, refl, sym, ap, ◌∙◌, arith, inl, inr, ◌⊎◌}
-use Rattle.std.specs.Prelude.{Option, Some, None}
-use Rattle.std.proofs.lemmas.Bool.{and_parts, ltb-true, eqb-true, leb-true, ne_eqb}
-use Rattle.unit_model.specs.Conditions.{unless, first_of, first_unmet, conditions_of, is_engine, is_worker, is_either, is_there, may_fill, may_empty, may_use, has_tag, seat_holds, holds, part_of}
+use Rattle.std.proofs.Common.{◌≡◌, ◌≢◌, ℕ, ◌+◌, ◌<◌, ◌-◌, ◌^◌, ◌==◌, ◌&&◌, nat_lt, nat_le, Bool, true, false, if◌then◌else◌, [], ◌∷◌, ◌++◌, length, set, drop, refl, ap, arith, inl, inr}
+use Rattle.std.specs.Prelude.{None}
+use Rattle.std.proofs.lemmas.Bool.{and_parts, ltb-true, eqb-true, ne_eqb}
+use Rattle.unit_model.specs.Conditions.{unless, is_engine, is_either, is_there, may_fill, may_empty, may_use, has_tag, part_of}
 use Rattle.unit_model.specs.Core.{queue_of, item_of, role_of, whereabouts_code}
-use Rattle.unit_model.specs.Effects.{after_step, with_note, with_item, with_owner, with_run_owner, with_opened, with_in_line, with_free, without_first_free, without_first_in_line, noted, armed_note, settled_note}
+use Rattle.unit_model.specs.Effects.{after_step, with_note, with_item, with_run_owner, with_in_line, with_free, without_first_free, without_first_in_line, noted, armed_note, settled_note}
 use Rattle.unit_model.specs.Lists.{change_at}
 use Rattle.unit_model.specs.StreamCounts.{StreamCounts}
 use Rattle.unit_model.specs.declared.machine.Core.{Core}
 use Rattle.unit_model.specs.declared.machine.Item.{Item}
 use Rattle.unit_model.specs.declared.machine.Note.{Note}
 use Rattle.unit_model.specs.declared.machine.Note.TheVariants.{Drawn, Abandoned, Sent, Received, Closed}
-use Rattle.unit_model.specs.declared.machine.Queue.{Queue}
-use Rattle.unit_model.specs.declared.machine.Step.{Step}
-use Rattle.unit_model.specs.declared.machine.Step.TheVariants.{Draw, Claim, Release, Open, GetItem, SetRun, SetPart, Arm, Push, Pop, Settle, GiveItem, Abandon}
+use Rattle.unit_model.specs.declared.machine.Step.TheVariants.{Draw, GetItem, SetRun, SetPart, Arm, Push, Pop, Settle, GiveItem, Abandon}
 use Rattle.unit_model.specs.declared.machine.Whereabouts.{Whereabouts}
 use Rattle.unit_model.specs.declared.machine.Whereabouts.TheVariants.{InFreeList, InLine, WithSeat}
 use Rattle.unit_model.specs.declared.runs.Run.{Run}
 use Rattle.unit_model.proofs.Changes.{bool_cases, changed_twice}
 use Rattle.unit_model.proofs.ItemChanges.{SetsItem}
-use Rattle.unit_model.proofs.MetConditions.{each_met, test_of}
+use Rattle.unit_model.proofs.MetConditions.{test_of}
 use Rattle.unit_model.proofs.SeatNotes.{Adds}
 
 -- ---- what a met condition says

@@ -1,13 +1,12 @@
 -- What became of each stream, and how many streams became it.
-use Rattle.std.proofs.Common.{◌≡◌, ◌≢◌, ℕ, zero, suc, ◌+◌, ◌-◌, ◌<◌, ◌≤◌, ◌==◌, ◌&&◌, ◌||◌, not, Bool, true, false, List, [], ◌∷◌, length, get_or, refl, sym, ap, ◌∙◌, arith, inl, inr, ◌⊎◌, subst}
+use Rattle.std.proofs.Common.{◌≡◌, ℕ, zero, suc, ◌+◌, ◌-◌, ◌<◌, ◌≤◌, ◌==◌, ◌&&◌, ◌||◌, not, Bool, true, false, List, [], ◌∷◌, get_or, refl, sym, ap, ◌∙◌, arith, inl, inr}
 use Rattle.std.specs.Prelude.{Contains}
 use Rattle.std.specs.List.{list_any}
-use Rattle.std.proofs.lemmas.Bool.{cases_eq, cases_lt, eq-eqb, ne_eqb, and_parts, eqb-true}
+use Rattle.std.proofs.lemmas.Bool.{cases_eq, cases_lt, and_parts}
 use Rattle.unit_model.specs.Conditions.{has_stream}
 use Rattle.unit_model.specs.Core.{seat_of, no_seat}
 use Rattle.unit_model.specs.CountLaws.{StreamsAddUp}
 use Rattle.unit_model.specs.PartCounts.{PartCounts, no_part, of_stream, received, parts_by_seat}
-use Rattle.unit_model.specs.SoundStreams.{IsTaken}
 use Rattle.unit_model.specs.StreamAccount.{is_in, is_accepted, is_cancelled, is_abandoned, is_refused, is_left_open, EachStreamIsOne, streams_that, entries_in, AccountIsWhole, EntriesAreStreams}
 use Rattle.unit_model.specs.StreamCounts.{StreamCounts, by_seat, by_all, drawn, posted, cancelled, abandoned, taken}
 use Rattle.unit_model.specs.Weights.{weigh, one_if, is_number, times, over_all, below}
@@ -15,15 +14,14 @@ use Rattle.unit_model.specs.declared.machine.Core.{Core}
 use Rattle.unit_model.specs.declared.machine.Part.{Part}
 use Rattle.unit_model.specs.declared.machine.Seat.{Seat as SeatLists}
 use Rattle.unit_model.proofs.Changes.{any_counts, bool_cases}
-use Rattle.unit_model.proofs.Members.{counts_in_all, weigh_le_members, weigh_members, weight_of_member}
-use Rattle.unit_model.proofs.PartLists.{taken_at_most_once}
+use Rattle.unit_model.proofs.Members.{counts_in_all, weigh_members, weight_of_member}
 use Rattle.unit_model.proofs.PartPoints.{received_was_sent, sender_takes}
 use Rattle.unit_model.proofs.PartSteps.{of_this}
-use Rattle.unit_model.proofs.SeatNotes.{has_counts, has_not_counts, is_there_of, one_seat, seat_in_all, all_less, all_less_at}
+use Rattle.unit_model.proofs.SeatNotes.{has_counts, has_not_counts, is_there_of, seat_in_all, all_less, all_less_at}
 use Rattle.unit_model.proofs.StreamLaw.{not_true}
 use Rattle.unit_model.proofs.StreamPoints.{state_is_posted}
 use Rattle.unit_model.proofs.StreamSteps.{drawn_at_most_once, posted_at_most_once}
-use Rattle.unit_model.proofs.Weights.{is_number_same, is_number_other, is_number_some, weigh_le, weigh_same, weigh-below, below_same, below-sum, below_is, below_none, below_ones, weigh_none}
+use Rattle.unit_model.proofs.Weights.{is_number_other, weigh_le, weigh-below, below_same, below-sum, below_is, below_none}
 
 -- ---- lists of all seats
 
@@ -60,11 +58,11 @@ accepting stream (l ∷ seats) any =
     let kept = not (has_stream stream l.abandoned) in
     elim (bool_cases (received_last && kept)) [
       | inl here ↦
-        let tests = and_parts received_last kept here in
-        (0, any_counts (λ part. part.stream == stream && part.last) l.received tests.0, has_not_counts stream l.abandoned (not_true (has_stream stream l.abandoned) tests.1))
+          let tests = and_parts received_last kept here in
+          (0, any_counts (λ part. part.stream == stream && part.last) l.received tests.0, has_not_counts stream l.abandoned (not_true (has_stream stream l.abandoned) tests.1))
       | inr away ↦
-        let rest = accepting stream seats (rw away at any) in
-        (suc (rest.0), rest.1, rest.2)
+          let rest = accepting stream seats (rw away at any) in
+          (suc (rest.0), rest.1, rest.2)
     ]
 
 one_less : (a b : Bool) → one_if (a && b) ≤ one_if a
@@ -238,8 +236,16 @@ account_is_whole core counts parts =
     let b : ℕ → ℕ = λ s. one_if (is_abandoned core s) in
     let r : ℕ → ℕ = λ s. one_if (is_refused core s) in
     let o : ℕ → ℕ = λ s. one_if (is_left_open core s) in
-    omega (arith, drawn_entries core counts, ap (below (classes core)) next, all,
-    below-sum (λ s. a s + c s + b s + r s) o core.next, below-sum (λ s. a s + c s + b s) r core.next, below-sum (λ s. a s + c s) b core.next, below-sum a c core.next)
+    omega (
+      arith,
+      drawn_entries core counts,
+      ap (below (classes core)) next,
+      all,
+      below-sum (λ s. a s + c s + b s + r s) o core.next,
+      below-sum (λ s. a s + c s + b s) r core.next,
+      below-sum (λ s. a s + c s) b core.next,
+      below-sum a c core.next,
+    )
 
 pub streams_add_up : (core : Core) → StreamCounts core → PartCounts core → StreamsAddUp core
 streams_add_up core counts parts = record {

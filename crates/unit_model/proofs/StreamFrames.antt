@@ -1,18 +1,17 @@
 -- Steps that leave the counts of streams as they are.
-use Rattle.std.proofs.Common.{◌≡◌, ◌≢◌, ℕ, ◌+◌, ◌<◌, ◌≤◌, List, [], ◌∷◌, ◌++◌, length, get_or, refl, sym, ap, ◌∙◌, arith, inl, inr, ◌⊎◌, subst}
+use Rattle.std.proofs.Common.{◌≡◌, ◌≢◌, ℕ, ◌+◌, List, length, get_or, refl, sym, ap, ◌∙◌, arith, inl, inr}
 use Rattle.std.proofs.lemmas.Bool.{cases_eq}
 use Rattle.unit_model.specs.Core.{no_queue, queue_of, item_of, blank}
 use Rattle.unit_model.specs.Effects.{noted}
-use Rattle.unit_model.specs.StreamCounts.{StreamCounts, drawn, posted, cancelled, abandoned, taken, line_tags, by_seat, by_all}
+use Rattle.unit_model.specs.StreamCounts.{StreamCounts, drawn, posted, cancelled, abandoned, taken, line_tags}
 use Rattle.unit_model.specs.Weights.{weigh, is_number}
 use Rattle.unit_model.specs.declared.machine.Core.{Core}
 use Rattle.unit_model.specs.declared.machine.Item.{Item}
 use Rattle.unit_model.specs.declared.machine.Note.{Note}
 use Rattle.unit_model.specs.declared.machine.Queue.{Queue}
-use Rattle.unit_model.specs.declared.machine.Seat.{Seat as SeatLists}
 use Rattle.unit_model.proofs.Changes.{changed_length}
 use Rattle.unit_model.proofs.ItemChanges.{SetsItem, each_item, items_elsewhere, weigh_items}
-use Rattle.unit_model.proofs.SeatNotes.{Adds, Stays, stays, all_stays}
+use Rattle.unit_model.proofs.SeatNotes.{Adds, Stays, all_stays}
 
 -- ---- the seats and their lists
 

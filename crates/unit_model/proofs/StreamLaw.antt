@@ -1,18 +1,18 @@
 -- An enabled step keeps what holds of the counts of streams.
-use Rattle.std.proofs.Common.{◌≡◌, ◌≢◌, ℕ, zero, suc, ◌+◌, ◌<◌, ◌≤◌, ◌^◌, ◌==◌, ◌&&◌, ◌||◌, not, nat_lt, Bool, true, false, if◌then◌else◌, List, [], ◌∷◌, length, refl, sym, ap, ◌∙◌, arith, inl, inr, ◌⊎◌}
-use Rattle.std.specs.Prelude.{Option, Some, None}
+use Rattle.std.proofs.Common.{◌≡◌, ◌≢◌, ℕ, ◌≤◌, ◌^◌, ◌==◌, ◌&&◌, ◌||◌, not, nat_lt, Bool, true, false, if◌then◌else◌, List, [], ◌∷◌, refl, arith, inl, inr}
+use Rattle.std.specs.Prelude.{None}
 use Rattle.std.specs.List.{list_any}
-use Rattle.std.proofs.lemmas.Bool.{and_parts, ltb-true, eqb-true, eq-eqb, ne_eqb, cases_eq}
-use Rattle.unit_model.specs.Conditions.{unless, first_unmet, conditions_of, has_stream, is_next_stream, is_engine, is_either, may_fill, may_empty, may_use, has_tag, seat_holds, fits_side, run_has_owner, may_arm, may_post, may_settle, may_win_request, may_win_part, may_abandon, is_taken, part_of}
-use Rattle.unit_model.specs.Core.{queue_of, item_of, role_of, seat_of}
-use Rattle.unit_model.specs.Effects.{after_step, with_note, with_item, with_owner, with_run_owner, with_opened, with_in_line, with_free, without_first_free, without_first_in_line, armed_note, settled_note}
+use Rattle.std.proofs.lemmas.Bool.{and_parts, eqb-true, eq-eqb, cases_eq}
+use Rattle.unit_model.specs.Conditions.{first_unmet, conditions_of, has_stream, is_next_stream, may_arm, may_post, may_settle, may_win_request, may_win_part, may_abandon, is_taken, part_of}
+use Rattle.unit_model.specs.Core.{item_of, role_of, seat_of}
+use Rattle.unit_model.specs.Effects.{after_step, with_note, with_item, with_owner, with_run_owner, with_opened, with_in_line, with_free, without_first_free, without_first_in_line}
 use Rattle.unit_model.specs.Running.{Enabled}
-use Rattle.unit_model.specs.StreamCounts.{StreamCounts, taken, by_all, by_seat, posted, drawn, cancelled, abandoned}
-use Rattle.unit_model.specs.Weights.{weigh, is_number, times, over_all}
+use Rattle.unit_model.specs.StreamCounts.{StreamCounts, taken, by_seat, posted, drawn, cancelled, abandoned}
+use Rattle.unit_model.specs.Weights.{is_number, over_all}
 use Rattle.unit_model.specs.declared.machine.Core.{Core}
 use Rattle.unit_model.specs.declared.machine.Item.{Item}
 use Rattle.unit_model.specs.declared.machine.Note.{Note}
-use Rattle.unit_model.specs.declared.machine.Note.TheVariants.{Drawn, Posted, Cancelled, Abandoned, Taken, Sent, Received, Closed}
+use Rattle.unit_model.specs.declared.machine.Note.TheVariants.{Posted, Cancelled, Abandoned, Taken, Sent, Received, Closed}
 use Rattle.unit_model.specs.declared.machine.Part.{Part}
 use Rattle.unit_model.specs.declared.machine.Seat.{Seat as SeatLists}
 use Rattle.unit_model.specs.declared.machine.Step.{Step}
@@ -23,7 +23,7 @@ use Rattle.unit_model.proofs.ItemChanges.{SetsItem}
 use Rattle.unit_model.proofs.MetConditions.{each_met, test_of}
 use Rattle.unit_model.proofs.SeatNotes.{Adds, has_counts, has_not_counts, stays}
 use Rattle.unit_model.proofs.StepFacts as facts
-use Rattle.unit_model.proofs.StreamFrames.{SameFrame, SameLine, SameStreams, frame_with_note, frame_with_seats, streams_with_seats, line_with_queues, line_beside, line_quiet, streams_kept}
+use Rattle.unit_model.proofs.StreamFrames.{SameStreams, frame_with_note, frame_with_seats, streams_with_seats, line_with_queues, line_beside, line_quiet, streams_kept}
 use Rattle.unit_model.proofs.StreamSteps.{draws, posts, cancels, takes, abandons}
 
 after_draw : (core : Core) (seat stream : ℕ) → StreamCounts core → first_unmet core (Draw seat stream) ≡ None → StreamCounts (after_step core (Draw seat stream))

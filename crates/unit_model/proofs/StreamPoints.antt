@@ -1,23 +1,21 @@
 -- What the counts of streams say, point by point.
-use Rattle.std.proofs.Common.{◌≡◌, ◌≢◌, ℕ, zero, suc, ◌+◌, ◌<◌, ◌≤◌, Bool, true, false, List, [], ◌∷◌, length, get_or, refl, sym, ap, ◌∙◌, arith, inl, inr, ◌⊎◌, subst}
-use Rattle.std.specs.Prelude.{Contains}
-use Rattle.std.proofs.lemmas.Bool.{cases_eq, cases_lt, eq-eqb}
-use Rattle.unit_model.specs.Core.{blank, queue_of, item_of, seat_of, no_seat}
+use Rattle.std.proofs.Common.{◌≡◌, ◌≢◌, ℕ, ◌+◌, ◌<◌, ◌≤◌, length, refl, ap, ◌∙◌, arith, inl, inr}
+use Rattle.std.proofs.lemmas.Bool.{cases_eq, cases_lt}
+use Rattle.unit_model.specs.Core.{blank, queue_of, item_of, seat_of}
 use Rattle.unit_model.specs.Holding.{IsArmed}
-use Rattle.unit_model.specs.PartCounts.{PartCounts, of_stream, sent, received}
-use Rattle.unit_model.specs.SoundStreams.{IsPosted, IsTaken, NoRequestTwice, PartIsPoster, TakenOrCancelled, IsInNone, DrawnInOrder, PostedOnce, AbandonedOnce}
-use Rattle.unit_model.specs.StreamCounts.{StreamCounts, by_seat, by_all, drawn, posted, cancelled, abandoned, taken, closed, line_tags}
-use Rattle.unit_model.specs.Weights.{weigh, is_number, times}
+use Rattle.unit_model.specs.PartCounts.{PartCounts, of_stream}
+use Rattle.unit_model.specs.SoundStreams.{NoRequestTwice, PartIsPoster, TakenOrCancelled, IsInNone, DrawnInOrder, PostedOnce, AbandonedOnce}
+use Rattle.unit_model.specs.StreamCounts.{StreamCounts, by_seat, by_all, drawn, posted, cancelled, abandoned, taken, line_tags}
+use Rattle.unit_model.specs.Weights.{weigh, is_number}
 use Rattle.unit_model.specs.declared.machine.Core.{Core}
 use Rattle.unit_model.specs.declared.machine.Item.{Item}
-use Rattle.unit_model.specs.declared.machine.Seat.{Seat as SeatLists}
 use Rattle.unit_model.proofs.Changes.{weigh_one}
 use Rattle.unit_model.proofs.ItemChanges.{item_past}
 use Rattle.unit_model.proofs.Members.{member_counts, counted_member, counted_seat, counts_in_all}
 use Rattle.unit_model.proofs.PartLists.{taken_at_most_once}
 use Rattle.unit_model.proofs.SeatNotes.{seat_in_all, all_less}
-use Rattle.unit_model.proofs.StreamSteps.{drawn_at_most_once, posted_at_most_once}
-use Rattle.unit_model.proofs.Weights.{is_number_same, weigh_at}
+use Rattle.unit_model.proofs.StreamSteps.{posted_at_most_once}
+use Rattle.unit_model.proofs.Weights.{is_number_same}
 
 -- an item with a tag is there
 pub armed_inside : (core : Core) (queue item : ℕ) → IsArmed core queue item → item < length (queue_of core queue).items
@@ -55,7 +53,7 @@ part_is_poster core counts item armed = counted_member (item_of core 0 item).tag
 pub taken_or_cancelled : (core : Core) → StreamCounts core → TakenOrCancelled core
 taken_or_cancelled core counts = record {
   apart = λ stream one other taken_here cancelled_here.
-    absurd (omega (arith, counts_in_all taken core one stream refl taken_here, counts_in_all cancelled core other stream refl cancelled_here, state_is_posted core counts stream, posted_at_most_once core counts stream));
+      absurd (omega (arith, counts_in_all taken core one stream refl taken_here, counts_in_all cancelled core other stream refl cancelled_here, state_is_posted core counts stream, posted_at_most_once core counts stream));
   taken_once = λ stream. taken_at_most_once core counts stream;
   cancelled_once = λ stream. omega (arith, state_is_posted core counts stream, posted_at_most_once core counts stream);
 }
@@ -97,8 +95,8 @@ posted_once core counts = record {
   once = posted_at_most_once core counts;
   by_drawer = λ seat stream here. counted_member stream (seat_of core seat).drawn (omega (arith, member_counts stream (seat_of core seat).posted here, counts.posted_by_drawer seat stream));
   one_state = λ stream is_posted.
-    let has : 1 ≤ by_all posted core stream = counts_in_all posted core (is_posted.0) stream refl is_posted.1 in
-    omega (arith, has, posted_at_most_once core counts stream, counts.one_state stream (posted_some core counts stream has));
+      let has : 1 ≤ by_all posted core stream = counts_in_all posted core (is_posted.0) stream refl is_posted.1 in
+      omega (arith, has, posted_at_most_once core counts stream, counts.one_state stream (posted_some core counts stream has));
 }
 
 pub abandoned_once : (core : Core) → StreamCounts core → AbandonedOnce core
@@ -107,5 +105,5 @@ abandoned_once core counts = record {
   once = λ stream. omega (arith, counts.abandoned_is_taken stream, taken_at_most_once core counts stream);
   abandoned_is_taken = λ seat stream here. counted_seat taken core stream (omega (arith, counts_in_all abandoned core seat stream refl here, counts.abandoned_is_taken stream));
   not_cancelled = λ seat other stream here there.
-    absurd (omega (arith, counts_in_all abandoned core seat stream refl here, counts.abandoned_is_taken stream, counts_in_all cancelled core other stream refl there, state_is_posted core counts stream, posted_at_most_once core counts stream));
+      absurd (omega (arith, counts_in_all abandoned core seat stream refl here, counts.abandoned_is_taken stream, counts_in_all cancelled core other stream refl there, state_is_posted core counts stream, posted_at_most_once core counts stream));
 }

@@ -1,10 +1,10 @@
 -- The counts of streams after the steps that change them: a stream is drawn, posted, cancelled, taken or abandoned.
-use Rattle.std.proofs.Common.{◌≡◌, ◌≢◌, ℕ, ◌+◌, ◌<◌, ◌≤◌, List, [], ◌∷◌, ◌++◌, length, get_or, refl, sym, ap, ◌∙◌, arith, inl, inr, ◌⊎◌, subst}
+use Rattle.std.proofs.Common.{◌≡◌, ◌≢◌, ℕ, ◌+◌, ◌<◌, ◌≤◌, List, length, refl, sym, ap, ◌∙◌, arith, inl, inr, ◌⊎◌}
 use Rattle.std.proofs.lemmas.Bool.{cases_eq, cases_lt}
 use Rattle.unit_model.specs.Core.{queue_of, item_of, blank}
 use Rattle.unit_model.specs.Effects.{noted}
 use Rattle.unit_model.specs.StreamCounts.{StreamCounts, drawn, posted, cancelled, abandoned, taken, line_tags, by_seat, by_all}
-use Rattle.unit_model.specs.Weights.{weigh, is_number}
+use Rattle.unit_model.specs.Weights.{is_number}
 use Rattle.unit_model.specs.declared.machine.Core.{Core}
 use Rattle.unit_model.specs.declared.machine.Item.{Item}
 use Rattle.unit_model.specs.declared.machine.Note.TheVariants.{Drawn, Posted, Cancelled, Abandoned, Taken}

@@ -6,7 +6,7 @@ use Rattle.unit_model.specs.Opening.{opened_core}
 use Rattle.unit_model.specs.PartCounts.{PartCounts}
 use Rattle.unit_model.specs.Running.{AllEnabled, Enabled, after_steps}
 use Rattle.unit_model.specs.Shapes.{IsValid}
-use Rattle.unit_model.specs.SoundStreams.{HasSoundStreams}
+use Rattle.unit_model.specs.SoundStreams.{HasSoundStreams, ReceivedOnce, TakenOrCancelled}
 use Rattle.unit_model.specs.StreamAccount.{AccountIsWhole, EachStreamIsOne, EntriesAreStreams}
 use Rattle.unit_model.specs.StreamCounts.{StreamCounts}
 use Rattle.unit_model.specs.declared.machine.Core.{Core}
@@ -32,6 +32,14 @@ CountsAtFirst = (shape : Shape) → StreamCounts (opened_core shape) × PartCoun
 -- after every list of steps from there each point on streams and parts holds
 abbrev pub SoundAfterEveryList : Type 0
 SoundAfterEveryList = (shape : Shape) (steps : List Step) → IsValid shape → AllEnabled (opened_core shape) steps → HasSoundStreams (after_steps (opened_core shape) steps)
+
+-- in particular no request is both taken and cancelled, and no part, nor two last parts of a stream, is received twice
+abbrev pub NothingEndsTwice : Type 0
+NothingEndsTwice =
+    (shape : Shape) (steps : List Step)
+    → IsValid shape
+    → AllEnabled (opened_core shape) steps
+    → TakenOrCancelled (after_steps (opened_core shape) steps) × ReceivedOnce (after_steps (opened_core shape) steps)
 
 -- what became of the streams, where the counts are so
 pub record StreamsAddUp (core : Core) : Type 0 where

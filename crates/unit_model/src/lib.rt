@@ -31,8 +31,9 @@ pub use series::Series;
 pub use shape::Shape;
 pub use steps::{run_core, step_core};
 pub use stream_laws::{
-    a_step_keeps_parts, a_step_keeps_streams, streams_are_sound_after_every_list,
-    the_account_is_whole, the_counts_are_the_points, the_counts_hold_at_first,
+    a_step_keeps_parts, a_step_keeps_streams, nothing_ends_twice,
+    streams_are_sound_after_every_list, the_account_is_whole, the_counts_are_the_points,
+    the_counts_hold_at_first,
 };
 pub use unit_types::{Addr, Bytes, Field, Fields, Handlers, Reply, Request};
 

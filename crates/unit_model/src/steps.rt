@@ -26,6 +26,8 @@ pub fn step_core(core: &mut Core, step: &Step) -> Result<(), StepFault>
     ensures fault { IfErr result (λ fault. IsFaultOf (first_unmet core.old step.now) fault) }
     ensures kept { OnErr result (core.new ≡ core.old) }
     ensures held { IsHeldRight core.old → IsHeldRight core.new }
+    ensures streams { StreamCounts core.old → StreamCounts core.new }
+    ensures parts { IsHeldRight core.old → StreamCounts core.old → PartCounts core.old → PartCounts core.new }
 {
     if let Some(unmet) = core.first_unmet(step) {
         return Err(StepFault::NotEnabled {

@@ -6,6 +6,6 @@ pub returns : goal.returns
 returns c core held = (
   (λ counts. points_of_counts core counts.0 counts.1),
   (λ points.
-    let streams = streams_of_points core held.shape.seats held.streams.next points in
-    (streams, parts_of_points core streams points))
+      let streams = streams_of_points core held.shape.seats held.streams.next points in
+      (streams, parts_of_points core streams points)),
 )
