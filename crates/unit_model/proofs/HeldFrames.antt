@@ -7,7 +7,7 @@ use Rattle.unit_model.proofs.ChangedCore.{each_changed, each_item_changed}
 use Rattle.unit_model.specs.Conditions.{has_stream}
 use Rattle.unit_model.specs.Core.{blank, no_queue, no_seat, queue_of, item_of, seat_of, owner_of, chunk_number}
 use Rattle.unit_model.specs.Effects.{noted, armed_note, settled_note}
-use Rattle.unit_model.specs.Holding.{HasItsShape, HasItsOwners, HasItsSegments, HasNoStream0, FitsQueue, IsInRun, is_opened}
+use Rattle.unit_model.specs.Holding.{HasItsShape, HasItsOwners, HasItsSegments, HasNoStreamZero, FitsQueue, IsInRun, is_opened}
 use Rattle.unit_model.specs.Lists.{change_at}
 use Rattle.unit_model.specs.declared.machine.Core.{Core}
 use Rattle.unit_model.specs.declared.machine.Item.{Item}
@@ -112,10 +112,10 @@ taken_more (Received part) lists other none = none
 taken_more (Sent part) lists other none = none
 taken_more (Closed stream) lists other none = none
 
-pub keeps_streams : (core : Core) (next : ℕ) (opened : Sides) (owners : List Owner) (queues : List Queue) → HasNoStream0 core → 1 ≤ next → HasNoStream0 (record { shape = core.shape; next = next; opened = opened; owners = owners; queues = queues; seats = core.seats })
+pub keeps_streams : (core : Core) (next : ℕ) (opened : Sides) (owners : List Owner) (queues : List Queue) → HasNoStreamZero core → 1 ≤ next → HasNoStreamZero (record { shape = core.shape; next = next; opened = opened; owners = owners; queues = queues; seats = core.seats })
 keeps_streams core next opened owners queues streams some = record { next = some; drawn = streams.drawn; taken = streams.taken }
 
-pub notes_stream : (core : Core) (next seat : ℕ) (note : Note) (opened : Sides) (owners : List Owner) (queues : List Queue) → HasNoStream0 core → 1 ≤ next → drawn_or_taken note ≢ 0 → HasNoStream0 (record { shape = core.shape; next = next; opened = opened; owners = owners; queues = queues; seats = change_at seat (noted note) core.seats })
+pub notes_stream : (core : Core) (next seat : ℕ) (note : Note) (opened : Sides) (owners : List Owner) (queues : List Queue) → HasNoStreamZero core → 1 ≤ next → drawn_or_taken note ≢ 0 → HasNoStreamZero (record { shape = core.shape; next = next; opened = opened; owners = owners; queues = queues; seats = change_at seat (noted note) core.seats })
 notes_stream core next seat note opened owners queues streams some other = record {
   next = some;
   drawn = each_changed (λ k lists. has_stream 0 lists.drawn ≡ false) seat (noted note) core.seats no_seat (drawn_more note (seat_of core seat) other (streams.drawn seat)) streams.drawn;

@@ -11,7 +11,7 @@ use Rattle.unit_model.proofs.MetSteps.{either_is_there, seat_is_low, fill_there,
 use Rattle.unit_model.specs.Conditions.{conditions_of, has_stream, is_open, may_open, run_has_owner, may_arm, may_post, may_send, is_last_sent, is_closed, parts_sent, holds_tagged, may_settle}
 use Rattle.unit_model.specs.Core.{no_queue, queue_of, item_of, seat_of, owner_of, role_of, side_start, side_end, side_opened, chunk_number, number_in}
 use Rattle.unit_model.specs.Effects.{after_step, with_note, with_item, with_owner, with_run_owner, with_opened, noted, armed_note, settled_note, set_all}
-use Rattle.unit_model.specs.Holding.{IsHeldRight, HasItsItems, HasItsOwners, HasNoStream0, FitsQueue, IsInRun, is_opened}
+use Rattle.unit_model.specs.Holding.{IsHeldRight, HasItsItems, HasItsOwners, HasNoStreamZero, FitsQueue, IsInRun, is_opened}
 use Rattle.unit_model.specs.Lists.{change_at}
 use Rattle.unit_model.specs.Running.{Enabled}
 use Rattle.unit_model.specs.Runs.{chunks_for}
@@ -147,23 +147,23 @@ held_message core q i seat new owner note held queue fits taken other owners =
       streams = notes_stream core core.next seat note core.opened all queues held.streams held.streams.next other;
     }
 
-no_stream_0 : (streams : List ℕ) (stream : ℕ) → has_stream 0 streams ≡ false → has_stream stream streams ≡ true → stream ≢ 0
-no_stream_0 streams stream none is zero = let there : has_stream 0 streams ≡ true = sym (ap (λ (s : ℕ). has_stream s streams) zero) ∙ is in absurd (cc (there, none))
+not_stream_zero : (streams : List ℕ) (stream : ℕ) → has_stream 0 streams ≡ false → has_stream stream streams ≡ true → stream ≢ 0
+not_stream_zero streams stream none is zero = let there : has_stream 0 streams ≡ true = sym (ap (λ (s : ℕ). has_stream s streams) zero) ∙ is in absurd (cc (there, none))
 
 -- what is armed is a stream
-arms_a_stream : (core : Core) (seat queue item stream : ℕ) → HasNoStream0 core → may_arm core seat queue item stream ≡ None → stream ≢ 0
+arms_a_stream : (core : Core) (seat queue item stream : ℕ) → HasNoStreamZero core → may_arm core seat queue item stream ≡ None → stream ≢ 0
 unfolding may_arm may_post may_send
 arms_a_stream core seat queue item stream streams met =
     elim (cases_Bool (queue == 0)) [
       | inl line ↦
           let drawn = has_stream stream (seat_of core seat).drawn in
           let rest = not (has_stream stream (seat_of core seat).posted) && (item_of core queue item).part == seat in
-          no_stream_0 (seat_of core seat).drawn stream (streams.drawn seat) (and_parts drawn rest (test_of (drawn && rest) _ _ _ (rw line at met))).0
+          not_stream_zero (seat_of core seat).drawn stream (streams.drawn seat) (and_parts drawn rest (test_of (drawn && rest) _ _ _ (rw line at met))).0
       | inr back ↦
           let taken = has_stream stream (seat_of core seat).taken in
           let posted = has_stream stream (seat_of core (queue - 1)).posted in
           let rest = (not (is_last_sent core stream) && not (is_closed core stream)) && (number_in (item_of core queue item).part == parts_sent core stream && not (holds_tagged core seat queue stream)) in
-          no_stream_0 (seat_of core seat).taken stream (streams.taken seat) (and_parts taken posted (and_parts (taken && posted) rest (test_of ((taken && posted) && rest) _ _ _ (rw back at met))).0).0
+          not_stream_zero (seat_of core seat).taken stream (streams.taken seat) (and_parts taken posted (and_parts (taken && posted) rest (test_of ((taken && posted) && rest) _ _ _ (rw back at met))).0).0
     ]
 
 pub held_arm : (core : Core) (seat queue item stream : ℕ) → IsHeldRight core → Enabled core (Arm seat queue item stream) → IsHeldRight (after_step core (Arm seat queue item stream))

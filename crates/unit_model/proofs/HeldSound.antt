@@ -5,7 +5,7 @@ use Rattle.std.proofs.lemmas.List.{get_or_past}
 use Rattle.unit_model.proofs.HeldItems.{CountsBy, counts_at, free_word, word_of_free}
 use Rattle.unit_model.proofs.Weights.{weigh_at, weigh_some, is_number_same, is_number_some, below_same, below_none, below_is}
 use Rattle.unit_model.specs.Core.{blank, queue_of, item_of, owner_of, whereabouts_code}
-use Rattle.unit_model.specs.Holding.{IsHeldRight, HasItsShape, HasNoStream0, AreConsecutive, entries_of, is_in_free_list, is_in_line}
+use Rattle.unit_model.specs.Holding.{IsHeldRight, HasItsShape, HasNoStreamZero, AreConsecutive, entries_of, is_in_free_list, is_in_line}
 use Rattle.unit_model.specs.Sound.{HasSoundHoldings, NamesWhatIsThere, RunsUpTo, HasNoTag, HasNoChunkWithSeats, no_entry, place_at, item_at}
 use Rattle.unit_model.specs.Weights.{below, one_if, is_number}
 use Rattle.unit_model.specs.declared.machine.Core.{Core}
@@ -179,7 +179,7 @@ counts_by_words test items entries there counts item =
           none ∙ sym (ap (λ (b : Bool). one_if (b && test (get_or items item blank).whereabouts)) (le-ltb item (length items) past))
     ]
 
-pub held_from_sound : (core : Core) → HasSoundHoldings core → NamesWhatIsThere core → HasNoStream0 core → IsHeldRight core
+pub held_from_sound : (core : Core) → HasSoundHoldings core → NamesWhatIsThere core → HasNoStreamZero core → IsHeldRight core
 held_from_sound core sound names streams = record {
   shape = names.shape;
   queues = λ queue.

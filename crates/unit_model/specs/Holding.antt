@@ -128,7 +128,7 @@ pub record HasItsSegments (core : Core) : Type 0 where
 -- ---- the streams
 
 -- 0 is no stream
-pub record HasNoStream0 (core : Core) : Type 0 where
+pub record HasNoStreamZero (core : Core) : Type 0 where
   pub next : 1 ≤ core.next
   pub drawn : (seat : ℕ) → has_stream 0 (seat_of core seat).drawn ≡ false
   pub taken : (seat : ℕ) → has_stream 0 (seat_of core seat).taken ≡ false
@@ -145,4 +145,4 @@ pub record IsHeldRight (core : Core) : Type 0 where
   -- chunks are taken in open segments alone
   pub segments : HasItsSegments core
   -- no stream is 0
-  pub streams : HasNoStream0 core
+  pub streams : HasNoStreamZero core

@@ -1,9 +1,9 @@
 //! Laws of who holds what.
 ghost use Rattle.unit_model.specs.Effects.{after_step};
-ghost use Rattle.std.specs.Prelude.{◌↔◌};
-ghost use Rattle.unit_model.specs.Holding.{HasNoStream0, IsHeldRight};
+ghost use Rattle.std.specs.Prelude.{List, ◌↔◌};
+ghost use Rattle.unit_model.specs.Holding.{HasNoStreamZero, IsHeldRight};
 ghost use Rattle.unit_model.specs.Opening.{opened_core};
-ghost use Rattle.unit_model.specs.Running.{Enabled};
+ghost use Rattle.unit_model.specs.Running.{AllEnabled, Enabled, after_steps};
 ghost use Rattle.unit_model.specs.Shapes.{IsValid};
 ghost use Rattle.unit_model.specs.Sound.{AllChunksAreFree, HasNoChunkWithSeats, HasNoTag, HasSoundHoldings, NamesWhatIsThere};
 ghost use Rattle.unit_model.specs.declared.machine.Core.{Core};
@@ -20,10 +20,15 @@ pub fn each_step_holds_right()
     ensures { (core : Core) (step : Step) → IsHeldRight core → Enabled core step → IsHeldRight (after_step core step) }
 {}
 
+/// So does a list of steps of which each is enabled in its turn. This does nothing: its contract is the law.
+pub fn each_run_holds_right()
+    ensures { (core : Core) (steps : List Step) → IsHeldRight core → AllEnabled core steps → IsHeldRight (after_steps core steps) }
+{}
+
 /// That all is held right says each point on items and chunks, that what the core names is there, and that no stream is 0;
 /// and these together say no less. This does nothing: its contract is the law.
 pub fn held_right_is_each_point()
-    ensures { (core : Core) → IsHeldRight core ↔ (HasSoundHoldings core × NamesWhatIsThere core × HasNoStream0 core) }
+    ensures { (core : Core) → IsHeldRight core ↔ (HasSoundHoldings core × NamesWhatIsThere core × HasNoStreamZero core) }
 {}
 
 /// Where no item has a tag and no seat has a chunk, all chunks are free. This does nothing: its contract is the law.

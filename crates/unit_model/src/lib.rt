@@ -18,8 +18,8 @@ mod stream_laws;
 mod streams;
 
 pub use holding_laws::{
-    all_is_held_right_at_first, chunks_are_free_at_rest, each_step_holds_right,
-    held_right_is_each_point,
+    all_is_held_right_at_first, chunks_are_free_at_rest, each_run_holds_right,
+    each_step_holds_right, held_right_is_each_point,
 };
 pub use lines::step_line;
 pub use machine::{
@@ -37,5 +37,7 @@ pub use stream_laws::{
 };
 pub use unit_types::{Addr, Bytes, Field, Fields, Handlers, Reply, Request};
 
+#[cfg(test)]
+mod condition_tests;
 #[cfg(test)]
 mod tests;
