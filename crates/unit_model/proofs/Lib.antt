@@ -26,11 +26,11 @@ pub mod PartSteps
 pub mod PointCounts
 pub mod Running
 pub mod SeatNotes
+pub mod SoundRuns
 pub mod StepFacts
 pub mod StreamClasses
 pub mod StreamFrames
 pub mod StreamLaw
 pub mod StreamPoints
-pub mod StreamRuns
 pub mod StreamSteps
 pub mod Weights

@@ -1,17 +1,20 @@
 -- The laws on counts of streams and parts.
-use Rattle.std.specs.Prelude.{◌↔◌, List}
+use Rattle.std.specs.Prelude.{◌↔◌}
 use Rattle.unit_model.specs.Effects.{after_step}
 use Rattle.unit_model.specs.Holding.{IsHeldRight}
 use Rattle.unit_model.specs.Opening.{opened_core}
 use Rattle.unit_model.specs.PartCounts.{PartCounts}
-use Rattle.unit_model.specs.Running.{AllEnabled, Enabled, after_steps}
-use Rattle.unit_model.specs.Shapes.{IsValid}
-use Rattle.unit_model.specs.SoundStreams.{HasSoundStreams, ReceivedOnce, TakenOrCancelled}
+use Rattle.unit_model.specs.Running.{Enabled}
+use Rattle.unit_model.specs.SoundStreams.{HasSoundStreams}
 use Rattle.unit_model.specs.StreamAccount.{AccountIsWhole, EachStreamIsOne, EntriesAreStreams}
 use Rattle.unit_model.specs.StreamCounts.{StreamCounts}
 use Rattle.unit_model.specs.declared.machine.Core.{Core}
 use Rattle.unit_model.specs.declared.machine.Step.{Step}
 use Rattle.unit_model.specs.declared.shape.Shape.{Shape}
+
+-- the core as it begins has the counts
+abbrev pub CountsAtFirst : Type 0
+CountsAtFirst = (shape : Shape) → StreamCounts (opened_core shape) × PartCounts (opened_core shape)
 
 -- an enabled step keeps what holds of the counts of streams
 abbrev pub StepKeepsStreams : Type 0
@@ -25,23 +28,7 @@ StepKeepsParts = (core : Core) (step : Step) → IsHeldRight core → StreamCoun
 abbrev pub CountsAreThePoints : Type 0
 CountsAreThePoints = (core : Core) → IsHeldRight core → (StreamCounts core × PartCounts core) ↔ HasSoundStreams core
 
--- the core as it begins has the counts
-abbrev pub CountsAtFirst : Type 0
-CountsAtFirst = (shape : Shape) → StreamCounts (opened_core shape) × PartCounts (opened_core shape)
-
--- after every list of steps from there each point on streams and parts holds
-abbrev pub SoundAfterEveryList : Type 0
-SoundAfterEveryList = (shape : Shape) (steps : List Step) → IsValid shape → AllEnabled (opened_core shape) steps → HasSoundStreams (after_steps (opened_core shape) steps)
-
--- in particular no request is both taken and cancelled, and no part, nor two last parts of a stream, is received twice
-abbrev pub NothingEndsTwice : Type 0
-NothingEndsTwice =
-    (shape : Shape) (steps : List Step)
-    → IsValid shape
-    → AllEnabled (opened_core shape) steps
-    → TakenOrCancelled (after_steps (opened_core shape) steps) × ReceivedOnce (after_steps (opened_core shape) steps)
-
--- what became of the streams, where the counts are so
+-- what became of the streams
 pub record StreamsAddUp (core : Core) : Type 0 where
   pub each : EachStreamIsOne core
   pub whole : AccountIsWhole core

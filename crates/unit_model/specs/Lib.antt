@@ -12,6 +12,7 @@ pub mod Runs
 pub mod Shapes
 pub mod Sound
 pub mod SoundStreams
+pub mod Soundness
 pub mod StreamAccount
 pub mod StreamCounts
 pub mod Weights

@@ -13,6 +13,7 @@ mod opening;
 mod runs;
 mod series;
 mod shape;
+mod sound_laws;
 mod steps;
 mod stream_laws;
 mod streams;
@@ -29,10 +30,13 @@ pub use machine::{
 pub use runs::{Run, Seen, no_longer_run, run_has_its_chunks};
 pub use series::Series;
 pub use shape::Shape;
+pub use sound_laws::{
+    a_core_begins_sound, a_run_stays_sound, a_step_stays_sound, each_point_holds_after_every_run,
+    nothing_ends_twice, sound_is_each_point,
+};
 pub use steps::{run_core, step_core};
 pub use stream_laws::{
-    a_step_keeps_parts, a_step_keeps_streams, nothing_ends_twice,
-    streams_are_sound_after_every_list, the_account_is_whole, the_counts_are_the_points,
+    a_step_keeps_parts, a_step_keeps_streams, the_account_is_whole, the_counts_are_the_points,
     the_counts_hold_at_first,
 };
 pub use unit_types::{Addr, Bytes, Field, Fields, Handlers, Reply, Request};

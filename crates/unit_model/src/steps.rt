@@ -4,8 +4,8 @@ ghost use Rattle.unit_model.specs.Conditions.{first_unmet};
 ghost use Rattle.unit_model.specs.Core.{item_of};
 ghost use Rattle.unit_model.specs.Effects.{after_step, armed_note, settled_note, with_free, with_in_line, with_item, without_first_free, without_first_in_line};
 ghost use Rattle.unit_model.specs.Holding.{IsHeldRight};
-ghost use Rattle.unit_model.specs.PartCounts.{PartCounts};
 ghost use Rattle.unit_model.specs.Running.{AllEnabled, Enabled, IsFaultOf, after_steps};
+ghost use Rattle.unit_model.specs.Soundness.{IsSound};
 ghost use Rattle.unit_model.specs.StreamCounts.{StreamCounts};
 ghost use Rattle.unit_model.specs.declared.machine.Step.{Step};
 
@@ -27,7 +27,7 @@ pub fn step_core(core: &mut Core, step: &Step) -> Result<(), StepFault>
     ensures kept { OnErr result (core.new ≡ core.old) }
     ensures held { IsHeldRight core.old → IsHeldRight core.new }
     ensures streams { StreamCounts core.old → StreamCounts core.new }
-    ensures parts { IsHeldRight core.old → StreamCounts core.old → PartCounts core.old → PartCounts core.new }
+    ensures sound { IsSound core.old → IsSound core.new }
 {
     if let Some(unmet) = core.first_unmet(step) {
         return Err(StepFault::NotEnabled {
@@ -58,7 +58,7 @@ pub fn run_core(core: &mut Core, steps: &[Step]) -> Result<(), RunFault>
     ensures cause { IfErr result (λ fault. (step : Step) → slice_get steps.now fault.at ≡ Some step → IsFaultOf (first_unmet core.new step) fault.fault) }
     ensures held { IsHeldRight core.old → IsHeldRight core.new }
     ensures streams { StreamCounts core.old → StreamCounts core.new }
-    ensures parts { IsHeldRight core.old → StreamCounts core.old → PartCounts core.old → PartCounts core.new }
+    ensures sound { IsSound core.old → IsSound core.new }
 {
     for (i, step) in steps.iter().enumerate() {
         if let Err(fault) = step_core(core, step) {

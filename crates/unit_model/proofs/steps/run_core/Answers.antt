@@ -1,8 +1,8 @@
 use Rattle.std.proofs.Common.{sym, subst, take, ◌∙◌}
-use Rattle.unit_model.specs.PartCounts.{PartCounts}
+use Rattle.unit_model.specs.Soundness.{IsSound}
 use Rattle.unit_model.specs.StreamCounts.{StreamCounts}
 use Rattle.unit_model.proofs.Running.{run_one_more}
-use Rattle.unit_model.proofs.StreamRuns.{parts_by_all, streams_by_all}
+use Rattle.unit_model.proofs.SoundRuns.{sound_by_all, streams_by_all}
 use Rattle.unit_model.proofs.steps.run_core.Goals as goal
 
 pub loop-i-preserved : goal.loop-i-preserved
@@ -12,16 +12,16 @@ loop-i-preserved c =
 
 pub returns-clause-streams : goal.returns-clause-streams
 returns-clause-streams c = λ old.
-    subst StreamCounts (sym c.loop-i.invariant.done) (streams_by_all c.args.core.now (take c.loop-i.i c.args.steps.now) c.loop-i.invariant.enabled old)
+    subst StreamCounts (sym c.loop-i.invariant.done) (streams_by_all c.args.core.now (take c.loop-i.i c.args.steps.now) old c.loop-i.invariant.enabled)
 
 pub returns-in-Err-clause-streams : goal.returns-in-Err-clause-streams
 returns-in-Err-clause-streams c = λ old.
-    subst StreamCounts (sym (c.in-Err.ensures.kept ∙ c.loop-i.invariant.done)) (streams_by_all c.args.core.now (take c.loop-i.i c.args.steps.now) c.loop-i.invariant.enabled old)
+    subst StreamCounts (sym (c.in-Err.ensures.kept ∙ c.loop-i.invariant.done)) (streams_by_all c.args.core.now (take c.loop-i.i c.args.steps.now) old c.loop-i.invariant.enabled)
 
-pub returns-clause-parts : goal.returns-clause-parts
-returns-clause-parts c = λ held streams old.
-    subst PartCounts (sym c.loop-i.invariant.done) (parts_by_all c.args.core.now (take c.loop-i.i c.args.steps.now) c.loop-i.invariant.enabled held streams old)
+pub returns-clause-sound : goal.returns-clause-sound
+returns-clause-sound c = λ old.
+    subst IsSound (sym c.loop-i.invariant.done) (sound_by_all c.args.core.now (take c.loop-i.i c.args.steps.now) old c.loop-i.invariant.enabled)
 
-pub returns-in-Err-clause-parts : goal.returns-in-Err-clause-parts
-returns-in-Err-clause-parts c = λ held streams old.
-    subst PartCounts (sym (c.in-Err.ensures.kept ∙ c.loop-i.invariant.done)) (parts_by_all c.args.core.now (take c.loop-i.i c.args.steps.now) c.loop-i.invariant.enabled held streams old)
+pub returns-in-Err-clause-sound : goal.returns-in-Err-clause-sound
+returns-in-Err-clause-sound c = λ old.
+    subst IsSound (sym (c.in-Err.ensures.kept ∙ c.loop-i.invariant.done)) (sound_by_all c.args.core.now (take c.loop-i.i c.args.steps.now) old c.loop-i.invariant.enabled)
