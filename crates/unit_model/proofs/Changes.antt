@@ -26,10 +26,10 @@ unchanged_at zero change (x ∷ xs) (suc m) d other = refl
 unchanged_at (suc n) change (x ∷ xs) zero d other = refl
 unchanged_at (suc n) change (x ∷ xs) (suc m) d other = unchanged_at n change xs m d (omega arith)
 
-pub changed_twice : {X : Type 0} (n : ℕ) (first then_ : X → X) (xs : List X) → change_at n then_ (change_at n first xs) ≡ change_at n (λ x. then_ (first x)) xs
-changed_twice n first then_ [] = refl
-changed_twice zero first then_ (x ∷ xs) = refl
-changed_twice (suc n) first then_ (x ∷ xs) = ap (λ ys. x ∷ ys) (changed_twice n first then_ xs)
+pub changed_twice : {X : Type 0} (n : ℕ) (first second : X → X) (xs : List X) → change_at n second (change_at n first xs) ≡ change_at n (λ x. second (first x)) xs
+changed_twice n first second [] = refl
+changed_twice zero first second (x ∷ xs) = refl
+changed_twice (suc n) first second (x ∷ xs) = ap (λ ys. x ∷ ys) (changed_twice n first second xs)
 
 pub weigh_changed : {X : Type 0} (f : X → ℕ) (n : ℕ) (change : X → X) (xs : List X) (d : X) → n < length xs → weigh f (change_at n change xs) + f (get_or xs n d) ≡ weigh f xs + f (change (get_or xs n d))
 weigh_changed f n change [] d lt = absurd (omega arith)

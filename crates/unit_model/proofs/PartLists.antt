@@ -34,9 +34,9 @@ ordered_push parts part old next j inside =
     ]
 
 pub final_push : (parts : List Part) (part : Part) → ((j : ℕ) → j < length parts → (get_or parts j no_part).last ≡ false) → (j : ℕ) → j < length (parts ++ part ∷ []) → (get_or (parts ++ part ∷ []) j no_part).last ≡ true → j + 1 ≡ length (parts ++ part ∷ [])
-final_push parts part open_ j inside last =
+final_push parts part unmarked j inside last =
     elim (cases_lt j (length parts)) [
-      | inl before ↦ absurd (cc (last, ap (λ (p : Part). p.last) (get_or_append_left parts (part ∷ []) no_part j before), open_ j before))
+      | inl before ↦ absurd (cc (last, ap (λ (p : Part). p.last) (get_or_append_left parts (part ∷ []) no_part j before), unmarked j before))
       | inr past ↦ omega (arith, past, inside, push_length parts part)
     ]
 

@@ -27,7 +27,7 @@ pub record MaySend (core : Core) (seat engine item stream : ℕ) : Type 0 where
   pub takes : 1 ≤ by_seat taken core seat stream
   pub posts : 1 ≤ by_seat posted core engine stream
   pub no_last : is_last_sent core stream ≡ false
-  pub open_ : by_all closed core stream ≡ 0
+  pub unclosed : by_all closed core stream ≡ 0
   pub next : number_in (item_of core (1 + engine) item).part ≡ parts_sent core stream
   pub no_other : holds_tagged core seat (1 + engine) stream ≡ false
   pub untagged : (item_of core (1 + engine) item).tag ≡ 0
@@ -84,9 +84,9 @@ new_order core new seat part stream k other s is here this next old j =
     ]
 
 new_final : (core new : Core) (seat : ℕ) (part : Part) (stream k other : ℕ) → PartsGrow sent core new seat part → part.stream ≡ stream → sent_parts new seat stream ≡ sent_parts core seat stream ++ part ∷ [] → ((j : ℕ) → j < length (sent_parts core seat stream) → (get_or (sent_parts core seat stream) j no_part).last ≡ false) → ((j : ℕ) → j < length (sent_parts core k other) → (get_or (sent_parts core k other) j no_part).last ≡ true → j + 1 ≡ length (sent_parts core k other)) → (j : ℕ) → j < length (sent_parts new k other) → (get_or (sent_parts new k other) j no_part).last ≡ true → j + 1 ≡ length (sent_parts new k other)
-new_final core new seat part stream k other s is here open_ old j =
+new_final core new seat part stream k other s is here unmarked old j =
     elim (this_or_other k seat stream other) [
-      | inl both ↦ rw both.0 (rw (sym both.1) (rw here (final_push (sent_parts core seat stream) part open_ j)))
+      | inl both ↦ rw both.0 (rw (sym both.1) (rw here (final_push (sent_parts core seat stream) part unmarked j)))
       | inr off ↦ rw (sent_parts_other core new seat part other k s (rw is off)) (old j)
     ]
 
@@ -138,8 +138,8 @@ sends core new seat engine item stream streams shape adds sets may old =
             | inr beside ↦ omega (arith, backs, none, carries_other other number now beside, received_same, ap (λ l. one_if (nat_lt number l)) (same other beside), same_withdrawn core new other number (same other beside) (c.all other), state)
             | inl this ↦
                 let last : parts_sent new other ≡ parts_sent core other + 1 = omega (arith, more, ap (parts_sent new) this, ap (parts_sent core) this) in
-                let open_ : by_all closed core other ≡ 0 = omega (arith, may.open_, ap (by_all closed core) this) in
-                omega (arith, backs, none, carries_now other number was stream m this may.next, ap (λ s. one_if (parts_sent core s == number)) this, received_same, ap (λ l. one_if (nat_lt number l)) last, one_more_below number (parts_sent core other), withdrawn_zero core other number open_, withdrawn_zero new other number (omega (arith, c.all other, open_)), state)
+                let unclosed : by_all closed core other ≡ 0 = omega (arith, may.unclosed, ap (by_all closed core) this) in
+                omega (arith, backs, none, carries_now other number was stream m this may.next, ap (λ s. one_if (parts_sent core s == number)) this, received_same, ap (λ l. one_if (nat_lt number l)) last, one_more_below number (parts_sent core other), withdrawn_zero core other number unclosed, withdrawn_zero new other number (omega (arith, c.all other, unclosed)), state)
           ];
       to_poster = λ e i.
           each_item (λ x. x.tag ≢ 0 → 1 ≤ by_seat posted new e x.tag) core new (1 + engine) item now sets (1 + e) i

@@ -134,9 +134,9 @@ withdraws core new seat engine item now streams shape adds sets untagged some wo
     let has : 1 ≤ by_seat taken core seat stream = old.sent_by_taker seat stream (old.held_is_own seat engine item worker held some) in
     let under_way : 1 ≤ times_under_way core stream number =
     omega (arith, carries_this stream number was refl refl, back_item_in_all (carries stream number) core engine item (carries_none stream number blank some refl)) in
-    let open_ : by_all closed core stream ≡ 0 =
+    let unclosed : by_all closed core stream ≡ 0 =
     omega (arith, old.one_state stream number some, under_way, one_if_small (nat_lt number (parts_sent core stream)), withdrawn_final core stream number final) in
-    let more : by_seat closed core seat stream + 1 ≤ by_seat taken core seat stream = omega (arith, seat_in_all closed core seat stream refl, open_, has) in
+    let more : by_seat closed core seat stream + 1 ≤ by_seat taken core seat stream = omega (arith, seat_in_all closed core seat stream refl, unclosed, has) in
     record {
       closed_by_taker = λ k other. omega (arith, t.each k other, stays_within closed core new seat stream (λ k other. by_seat taken core k other) c old.closed_by_taker more k other);
       sent_by_taker = λ k other some_sent. omega (arith, t.each k other, old.sent_by_taker k other (rw (s.each k) at some_sent));
@@ -169,12 +169,12 @@ withdraws core new seat engine item now streams shape adds sets untagged some wo
           (λ here this tagged. absurd (tagged untagged))
           (λ beside tagged. omega (arith, s.all (same_part (part_of (item_of core (1 + e) i).tag (item_of core (1 + e) i))), old.under_way_was_sent e i tagged));
       received_was_sent = λ part some_received. omega (arith, s.all (same_part part), old.received_was_sent part (omega (arith, some_received, r.all (same_part part))));
-      held_is_own = λ k e i worker2.
+      held_is_own = λ k e i other_worker.
           each_item (λ x. x.whereabouts ≡ WithSeat k → x.tag ≢ 0 → 1 ≤ parts_by_seat sent new k x.tag) core new (1 + engine) item now sets (1 + e) i
           (λ here this is tagged. absurd (tagged untagged))
-          (λ beside is tagged. rw (s.each k) (old.held_is_own k e i (rw (role k) at worker2) is tagged));
-      held_is_final = λ k e i worker2.
+          (λ beside is tagged. rw (s.each k) (old.held_is_own k e i (rw (role k) at other_worker) is tagged));
+      held_is_final = λ k e i other_worker.
           each_item (λ x. x.whereabouts ≡ WithSeat k → x.tag ≢ 0 → number_in x.part + 1 ≡ parts_sent new x.tag) core new (1 + engine) item now sets (1 + e) i
           (λ here this is tagged. absurd (tagged untagged))
-          (λ beside is tagged. rw (m (item_of core (1 + e) i).tag) (old.held_is_final k e i (rw (role k) at worker2) is tagged));
+          (λ beside is tagged. rw (m (item_of core (1 + e) i).tag) (old.held_is_final k e i (rw (role k) at other_worker) is tagged));
     }

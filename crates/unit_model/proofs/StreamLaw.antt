@@ -260,8 +260,8 @@ after_abandon core seat stream old met =
     let is_received = list_any (λ part. part.stream == stream && part.last) lists.received in
     let tests = and_parts is_posted (not (ended || is_received)) (test_of (is_posted && not (ended || is_received)) _ _ _ may) in
     let asked = and_parts (has_stream stream lists.posted) (is_taken core stream) tests.0 in
-    let open_ = or_parts ended is_received (not_true (ended || is_received) tests.1) in
-    let fresh = or_parts (has_stream stream lists.cancelled) (has_stream stream lists.abandoned) open_.0 in
+    let unended = or_parts ended is_received (not_true (ended || is_received) tests.1) in
+    let fresh = or_parts (has_stream stream lists.cancelled) (has_stream stream lists.abandoned) unended.0 in
     let adds = facts.adds_after_abandon core seat stream there in
     abandons core new seat stream adds (frame_with_note core new seat (Abandoned stream) refl refl adds) (line_with_queues core new refl)
     (has_counts stream lists.posted asked.0) (has_not_counts stream lists.abandoned fresh.1) (taken_counts stream core.seats asked.1) old
