@@ -4,6 +4,7 @@ ghost use Rattle.unit_model.specs.Core.{blank, no_seat};
 ghost use Rattle.unit_model.specs.Holding.{IsHeldRight};
 ghost use Rattle.unit_model.specs.Opening.{first_entries, fresh_queue, opened_core};
 ghost use Rattle.unit_model.specs.Shapes.{IsValid};
+ghost use Rattle.unit_model.specs.Soundness.{IsSound};
 ghost use Rattle.unit_model.specs.declared.machine.Owner.TheVariants.{Free};
 
 use crate::conditions::BLANK;
@@ -22,6 +23,7 @@ impl Core {
         requires { IsValid shape.now }
         ensures opened { IfOk result (λ core. core ≡ opened_core shape.now) }
         ensures held { IfOk result (λ core. IsHeldRight core) }
+        ensures sound { IfOk result (λ core. IsSound core) }
     {
         let chunks = 640 * (shape.out_segments as usize + shape.back_segments as usize);
         let queues = fresh_queues(alloc, shape)?;
