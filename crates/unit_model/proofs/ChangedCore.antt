@@ -2,6 +2,7 @@
 use Rattle.std.proofs.Common.{◌≡◌, ◌≢◌, ℕ, zero, suc, ◌+◌, ◌<◌, ◌≤◌, List, [], ◌∷◌, length, get_or, set, refl, sym, ap, subst, ◌∙◌, arith, inl, inr, ◌⊎◌}
 use Rattle.std.proofs.lemmas.Bool.{cases_eq, cases_lt}
 use Rattle.std.proofs.lemmas.List.{get_or-set_same, get_or-set_other, length-set, get_or_past}
+use Rattle.unit_model.proofs.Changes.{changed_at, unchanged_at}
 use Rattle.unit_model.specs.Core.{blank, no_queue}
 use Rattle.unit_model.specs.Effects.{set_all}
 use Rattle.unit_model.specs.Lists.{change_at}
@@ -9,29 +10,6 @@ use Rattle.unit_model.specs.declared.machine.Item.{Item}
 use Rattle.unit_model.specs.declared.machine.Queue.{Queue}
 
 -- ---- one element of a list
-
-pub change_here : {X : Type 0} (n : ℕ) (change : X → X) (xs : List X) (d : X) → n < length xs → get_or (change_at n change xs) n d ≡ change (get_or xs n d)
-change_here n change [] d inside = absurd (omega arith)
-change_here zero change (x ∷ xs) d inside = refl
-change_here (suc n) change (x ∷ xs) d inside = change_here n change xs d (omega arith)
-
-pub change_elsewhere : {X : Type 0} (n : ℕ) (change : X → X) (xs : List X) (m : ℕ) (d : X) → m ≢ n → get_or (change_at n change xs) m d ≡ get_or xs m d
-change_elsewhere n change [] m d other = refl
-change_elsewhere zero change (x ∷ xs) zero d other = absurd (other refl)
-change_elsewhere zero change (x ∷ xs) (suc m) d other = refl
-change_elsewhere (suc n) change (x ∷ xs) zero d other = refl
-change_elsewhere (suc n) change (x ∷ xs) (suc m) d other = change_elsewhere n change xs m d (λ same. other (omega (arith, same)))
-
-pub length-change_at : {X : Type 0} (n : ℕ) (change : X → X) (xs : List X) → length (change_at n change xs) ≡ length xs
-length-change_at n change [] = refl
-length-change_at zero change (x ∷ xs) = refl
-length-change_at (suc n) change (x ∷ xs) = omega (arith, length-change_at n change xs)
-
--- one change after another
-pub change_twice : {X : Type 0} (n : ℕ) (change then : X → X) (xs : List X) → change_at n then (change_at n change xs) ≡ change_at n (λ x. then (change x)) xs
-change_twice n change then [] = refl
-change_twice zero change then (x ∷ xs) = refl
-change_twice (suc n) change then (x ∷ xs) = ap (λ ys. x ∷ ys) (change_twice n change then xs)
 
 -- what holds of each element
 pub each_changed : {X : Type 0} (P : ℕ → X → Type 0) (n : ℕ) (change : X → X) (xs : List X) (d : X) → P n (change (get_or xs n d)) → ((m : ℕ) → P m (get_or xs m d)) → (m : ℕ) → P m (get_or (change_at n change xs) m d)
@@ -66,11 +44,11 @@ each_item_changed P queues q i change new sets inside here others m j =
       | inl same ↦
           let items : List Item = (get_or queues q no_queue).items in
           let changed : (get_or (change_at q change queues) q no_queue).items ≡ set items i new =
-          ap (λ (k : Queue). k.items) (change_here q change queues no_queue (queue_there queues q i inside)) ∙ sets in
+          ap (λ (k : Queue). k.items) (changed_at q change queues no_queue (queue_there queues q i inside)) ∙ sets in
           let there : P q j (get_or (set items i new) j blank) = item_elsewhere (P q) items i new inside here (λ k other. others q k (λ _ is. other is)) j in
           subst (λ (k : ℕ). P k j (get_or (get_or (change_at q change queues) k no_queue).items j blank)) (sym same) (subst (λ (l : List Item). P q j (get_or l j blank)) (sym changed) there)
       | inr other ↦
-          subst (λ (k : Queue). P m j (get_or k.items j blank)) (sym (change_elsewhere q change queues m no_queue other)) (others m j (λ is _. other is))
+          subst (λ (k : Queue). P m j (get_or k.items j blank)) (sym (unchanged_at q change queues m no_queue other)) (others m j (λ is _. other is))
     ]
 
 -- ---- chunks

@@ -2,11 +2,13 @@
 use Rattle.std.proofs.Common.{◌≡◌, ◌≢◌, ℕ, ◌+◌, ◌^◌, ◌<◌, ◌==◌, nat_lt, if◌then◌else◌, List, [], ◌∷◌, ◌++◌, drop, length, set, refl, sym, subst, arith, inl, inr}
 use Rattle.std.specs.Prelude.{None}
 use Rattle.std.proofs.lemmas.Bool.{and_parts, eqb-true, cases_Bool}
-use Rattle.unit_model.proofs.ChangedCore.{change_twice, length-change_at, each_changed, queue_there}
+use Rattle.unit_model.proofs.ChangedCore.{each_changed, queue_there}
+use Rattle.unit_model.proofs.Changes.{changed_twice, changed_length}
 use Rattle.unit_model.proofs.HeldFrames.{keeps_shape, same_items, keeps_owners, same_messages, keeps_segments, keeps_streams, notes_stream, IsSameMessage}
 use Rattle.unit_model.proofs.HeldItems.{stays_in_place, taken_from_free, taken_from_line, put_in_line, put_in_free}
 use Rattle.unit_model.proofs.MetConditions.{each_met, test_of}
-use Rattle.unit_model.proofs.MetSteps.{either_is_there, engine_is_there, worker_is_there, seat_is_low, fill_there, empty_there, use_there, seat_has_it, tag_is, first_free, first_in_line, next_is, item_is_low}
+use Rattle.unit_model.proofs.MetSteps.{either_is_there, engine_is_there, worker_is_there, seat_is_low, fill_there, seat_has_it, first_free, first_in_line, next_is, item_is_low}
+use Rattle.unit_model.proofs.StepFacts.{empty_inside, tag_is, use_inside}
 use Rattle.unit_model.specs.Conditions.{conditions_of, is_engine, is_worker, is_next_stream, is_next_line_place, is_next_free_place}
 use Rattle.unit_model.specs.Core.{no_queue, queue_of, item_of}
 use Rattle.unit_model.specs.Effects.{after_step, with_note, with_item, with_in_line, with_free, without_first_free, without_first_in_line, noted}
@@ -32,7 +34,7 @@ held_draw core seat stream held met =
     let some : stream ≢ 0 = λ none. absurd (omega (arith, next, held.streams.next, none)) in
     let seats = change_at seat (noted (Drawn stream)) core.seats in
     record {
-      shape = keeps_shape core (stream + 1) core.opened core.owners core.queues seats held.shape refl refl (λ q. refl) (length-change_at seat (noted (Drawn stream)) core.seats);
+      shape = keeps_shape core (stream + 1) core.opened core.owners core.queues seats held.shape refl refl (λ q. refl) (changed_length seat (noted (Drawn stream)) core.seats);
       queues = held.queues;
       owners = keeps_owners core (stream + 1) core.opened core.queues seats held.owners (λ q i. (refl, λ armed. refl));
       segments = keeps_segments core (stream + 1) core.owners core.queues seats held.segments (λ segment chunk inside closed free. free);
@@ -44,7 +46,7 @@ unfolding after_step with_note
 held_abandon core seat stream held met =
     let seats = change_at seat (noted (Abandoned stream)) core.seats in
     record {
-      shape = keeps_shape core core.next core.opened core.owners core.queues seats held.shape refl refl (λ q. refl) (length-change_at seat (noted (Abandoned stream)) core.seats);
+      shape = keeps_shape core core.next core.opened core.owners core.queues seats held.shape refl refl (λ q. refl) (changed_length seat (noted (Abandoned stream)) core.seats);
       queues = held.queues;
       owners = keeps_owners core core.next core.opened core.queues seats held.owners (λ q i. (refl, λ armed. refl));
       segments = keeps_segments core core.next core.owners core.queues seats held.segments (λ segment chunk inside closed free. free);
@@ -58,7 +60,7 @@ pub held_item : (core : Core) (q i : ℕ) (change : Queue → Queue) (new : Item
 held_item core q i change new held sets inside same queue =
     let queues = change_at q change core.queues in
     record {
-      shape = keeps_shape core core.next core.opened core.owners queues core.seats held.shape refl (length-change_at q change core.queues) (same_items core.queues q i change new sets) refl;
+      shape = keeps_shape core core.next core.opened core.owners queues core.seats held.shape refl (changed_length q change core.queues) (same_items core.queues q i change new sets) refl;
       queues = each_changed (λ m queue. HasItsItems (core.shape.engines + core.shape.workers) queue) q change core.queues no_queue queue held.queues;
       owners = keeps_owners core core.next core.opened queues core.seats held.owners (same_messages core.queues q i change new sets inside same);
       segments = keeps_segments core core.next core.owners queues core.seats held.segments (λ segment chunk closed none free. free);
@@ -68,7 +70,7 @@ held_item core q i change new held sets inside same queue =
 -- the same, where the queue changes twice
 held_item_twice : (core : Core) (q i : ℕ) (first second : Queue → Queue) (new : Item) → IsHeldRight core → (second (first (queue_of core q))).items ≡ set (queue_of core q).items i new → i < length (queue_of core q).items → IsSameMessage (item_of core q i) new → HasItsItems (core.shape.engines + core.shape.workers) (second (first (queue_of core q))) → IsHeldRight (record core { queues = change_at q second (change_at q first core.queues) })
 held_item_twice core q i first second new held sets inside same queue =
-    subst (λ (queues : List Queue). IsHeldRight (record core { queues = queues })) (sym (change_twice q first second core.queues))
+    subst (λ (queues : List Queue). IsHeldRight (record core { queues = queues })) (sym (changed_twice q first second core.queues))
     (held_item core q i (λ x. second (first x)) new held sets inside same queue)
 
 pub held_get : (core : Core) (seat queue item place : ℕ) → IsHeldRight core → Enabled core (GetItem seat queue item place) → IsHeldRight (after_step core (GetItem seat queue item place))
@@ -92,7 +94,7 @@ held_pop core seat queue item place held met =
       | inl line ↦ worker_is_there core seat (rw line at role)
       | inr back ↦ engine_is_there core seat (rw back at role)
     ] in
-    let inside = empty_there core seat queue item (each_met conditions met 1) in
+    let inside = empty_inside core seat queue item (each_met conditions met 1) in
     let first = first_in_line core queue item (each_met conditions met 3) in
     let new : Item = record (item_of core queue item) { whereabouts = WithSeat seat } in
     let low = item_is_low core queue item held.shape (queue_there core.queues queue item inside) inside in
@@ -117,7 +119,7 @@ unfolding after_step with_item with_free conditions_of is_next_free_place
 held_give core seat queue item place held met =
     let conditions = conditions_of core (GiveItem seat queue item place) in
     let there = either_is_there core seat (each_met conditions met 0) in
-    let inside = use_there core queue item (each_met conditions met 1) in
+    let inside = use_inside core queue item (each_met conditions met 1) in
     let holds = seat_has_it core seat queue item (seat_is_low core seat held.shape there) (each_met conditions met 2) in
     let none = tag_is core queue item 0 (each_met conditions met 3) in
     let at = next_is (queue_of core queue).next_free place (each_met conditions met 4) in

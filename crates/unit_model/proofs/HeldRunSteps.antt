@@ -2,12 +2,14 @@
 use Rattle.std.proofs.Common.{◌≡◌, ◌≢◌, ℕ, ◌+◌, ◌-◌, ◌<◌, ◌≤◌, ◌==◌, ◌&&◌, nat_lt, nat_le, not, true, false, List, length, set, refl, sym, ap, ◌∙◌, arith, inl, inr}
 use Rattle.std.specs.Prelude.{None}
 use Rattle.std.proofs.lemmas.Bool.{and_parts, and_from, and_cases, and_left, and_right, or_left, or_right, or_parts, or_from, not-true, eqb-true, eqb-false, ltb-true, ltb-false, lt-ltb, le-ltb, le-leb, cases_Bool}
-use Rattle.unit_model.proofs.ChangedCore.{length-change_at, each_changed, each_set, length-set_all}
+use Rattle.unit_model.proofs.ChangedCore.{each_changed, each_set, length-set_all}
+use Rattle.unit_model.proofs.Changes.{changed_length}
 use Rattle.unit_model.proofs.HeldChunkSteps.{one_owner, held_owner, owner_cases, armed_owners, settled_owners, run_is_there}
 use Rattle.unit_model.proofs.HeldFrames.{keeps_shape, same_items, keeps_owners, keeps_segments, keeps_streams, notes_stream, drawn_or_taken, armed_is_other, settled_is_other}
 use Rattle.unit_model.proofs.HeldItems.{stays_in_place}
 use Rattle.unit_model.proofs.MetConditions.{each_met, test_of}
-use Rattle.unit_model.proofs.MetSteps.{either_is_there, seat_is_low, fill_there, use_there, seat_has_it, tag_is, run_fits, free_code, seat_code, chunk_has_code, chunks_have_code, in_segments}
+use Rattle.unit_model.proofs.MetSteps.{either_is_there, seat_is_low, fill_there, seat_has_it, run_fits, free_code, seat_code, chunk_has_code, chunks_have_code, in_segments}
+use Rattle.unit_model.proofs.StepFacts.{tag_is, use_inside}
 use Rattle.unit_model.specs.Conditions.{conditions_of, has_stream, is_open, may_open, run_has_owner, may_arm, may_post, may_send, is_last_sent, is_closed, parts_sent, holds_tagged, may_settle}
 use Rattle.unit_model.specs.Core.{no_queue, queue_of, item_of, seat_of, owner_of, role_of, side_start, side_end, side_opened, chunk_number, number_in}
 use Rattle.unit_model.specs.Effects.{after_step, with_note, with_item, with_owner, with_run_owner, with_opened, noted, armed_note, settled_note, set_all}
@@ -137,7 +139,7 @@ held_message core q i seat new owner note held queue fits taken other owners =
     let seats = change_at seat (noted note) core.seats in
     let owner_is = owner_cases core.owners new.run owner (run_is_there core q new.run held.shape fits) in
     record {
-      shape = keeps_shape core core.next core.opened all queues seats held.shape (length-set_all core.owners (chunk_number new.run.segment new.run.chunk) (chunks_for new.run.size) owner) (length-change_at q change core.queues) (same_items core.queues q i change new refl) (length-change_at seat (noted note) core.seats);
+      shape = keeps_shape core core.next core.opened all queues seats held.shape (length-set_all core.owners (chunk_number new.run.segment new.run.chunk) (chunks_for new.run.size) owner) (changed_length q change core.queues) (same_items core.queues q i change new refl) (changed_length seat (noted note) core.seats);
       queues = each_changed (λ m queue. HasItsItems (core.shape.engines + core.shape.workers) queue) q change core.queues no_queue queue held.queues;
       owners = owners;
       segments = keeps_segments core core.next all queues seats held.segments (λ segment chunk low closed free. elim (owner_is (chunk_number segment chunk)) [
@@ -200,7 +202,7 @@ held_settle core seat queue item stream held met =
     let old = item_of core queue item in
     let new : Item = record old { tag = 0 } in
     let there = either_is_there core seat (each_met conditions met 0) in
-    let inside = use_there core queue item (each_met conditions met 1) in
+    let inside = use_inside core queue item (each_met conditions met 1) in
     let tagged = tag_is core queue item stream (each_met conditions met 2) in
     let some = settles_a_stream core seat queue item stream (each_met conditions met 3) in
     let armed : old.tag ≢ 0 = λ zero. some (sym tagged ∙ zero) in

@@ -3,15 +3,15 @@ use Rattle.std.proofs.Common.{◌≡◌, ℕ, zero, suc, ◌+◌, ◌^◌, ◌<�
 use Rattle.std.specs.Prelude.{None}
 use Rattle.std.proofs.lemmas.Bool.{and_parts, ltb-true, leb-true, eqb-true, le-ltb, ne_eqb, cases_lt, cases_eq}
 use Rattle.unit_model.proofs.MetConditions.{test_of, none_parts}
-use Rattle.unit_model.specs.Conditions.{is_engine, is_worker, is_either, is_in_segments, has_owner, all_have_owner, is_there, may_fill, may_use, may_empty, is_first_free_item, is_first_line_item, is_next_place, holds, seat_holds, has_tag, fits_side}
-use Rattle.unit_model.specs.Core.{queue_of, item_of, role_of, owner_of, owner_code, whereabouts_code, first_item, side_start, side_end}
+use Rattle.unit_model.proofs.StepFacts.{held_of}
+use Rattle.unit_model.specs.Conditions.{is_engine, is_worker, is_either, is_in_segments, has_owner, all_have_owner, is_there, may_fill, is_first_free_item, is_first_line_item, is_next_place, holds, seat_holds, fits_side}
+use Rattle.unit_model.specs.Core.{queue_of, item_of, role_of, owner_of, owner_code, first_item, side_start, side_end}
 use Rattle.unit_model.specs.Holding.{HasItsShape, FitsQueue, first_segment, end_segment}
 use Rattle.unit_model.specs.Runs.{chunks_for}
 use Rattle.unit_model.specs.declared.machine.Core.{Core}
 use Rattle.unit_model.specs.declared.machine.Owner.{Owner}
 use Rattle.unit_model.specs.declared.machine.Owner.TheVariants.{Free, Seat, Message}
-use Rattle.unit_model.specs.declared.machine.Whereabouts.{Whereabouts}
-use Rattle.unit_model.specs.declared.machine.Whereabouts.TheVariants.{InFreeList, InLine, WithSeat}
+use Rattle.unit_model.specs.declared.machine.Whereabouts.TheVariants.{WithSeat}
 use Rattle.unit_model.specs.declared.runs.Run.{Run}
 
 -- ---- seats
@@ -46,14 +46,6 @@ seat_is_low core seat shape there = omega (arith, shape.shape.engines.1, shape.s
 
 -- ---- queues and items
 
-pub use_there : (core : Core) (queue item : ℕ) → may_use core queue item ≡ None → item < length (queue_of core queue).items
-unfolding may_use
-use_there core queue item met = ltb-true _ _ (test_of (is_there core queue item) _ _ _ met)
-
-pub empty_there : (core : Core) (seat queue item : ℕ) → may_empty core seat queue item ≡ None → item < length (queue_of core queue).items
-unfolding may_empty
-empty_there core seat queue item met = ltb-true _ _ (and_parts (is_there core queue item) _ (test_of _ _ _ _ met)).0
-
 same_test : (a b : Bool) → (if a then b else not b) ≡ true → a ≡ b
 same_test true true is = refl
 same_test true false is = absurd (cc is)
@@ -67,19 +59,10 @@ fill_there core seat queue item met =
     let both = and_parts (is_there core queue item) (if role_of core seat == 0 then queue == 0 else not (queue == 0)) (test_of _ _ _ _ met) in
     (ltb-true _ _ both.0, same_test (role_of core seat == 0) (queue == 0) both.1)
 
-held_code : (w : Whereabouts) (seat : ℕ) → whereabouts_code w ≡ 1 + seat → 1 + seat < 2 ^ 32 → w ≡ WithSeat seat
-held_code InFreeList seat is low = absurd (omega (arith, is))
-held_code InLine seat is low = absurd (omega (arith, is))
-held_code (WithSeat k) seat is low = ap WithSeat (omega (arith, is))
-
 pub seat_has_it : (core : Core) (seat queue item : ℕ) → seat < 8 → seat_holds core seat queue item ≡ None → (item_of core queue item).whereabouts ≡ WithSeat seat
 unfolding seat_holds
 seat_has_it core seat queue item low met =
-    held_code (item_of core queue item).whereabouts seat (eqb-true _ _ (test_of (holds core seat queue item) _ _ _ met)) (omega arith)
-
-pub tag_is : (core : Core) (queue item tag : ℕ) → has_tag core queue item tag ≡ None → (item_of core queue item).tag ≡ tag
-unfolding has_tag
-tag_is core queue item tag met = eqb-true _ _ (test_of ((item_of core queue item).tag == tag) _ _ _ met)
+    held_of seat (item_of core queue item).whereabouts (eqb-true _ _ (test_of (holds core seat queue item) _ _ _ met)) (omega arith)
 
 pub first_free : (core : Core) (queue item : ℕ) → is_first_free_item core queue item ≡ None → first_item (queue_of core queue).free ≡ item
 unfolding is_first_free_item
