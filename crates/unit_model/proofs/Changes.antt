@@ -1,7 +1,7 @@
 -- What stands in a list of which one element has changed, and the sums over it.
-use Rattle.std.proofs.Common.{◌≡◌, ◌≢◌, ℕ, zero, suc, ◌+◌, ◌<◌, ◌≤◌, Bool, true, false, List, [], ◌∷◌, ◌++◌, length, get_or, refl, ap, arith, inl, inr, ◌⊎◌}
+use Rattle.std.proofs.Common.{◌≡◌, ◌≢◌, ℕ, zero, suc, ◌+◌, ◌<◌, ◌≤◌, Bool, true, false, List, [], ◌∷◌, ◌++◌, length, get_or, refl, ap, arith, inl, inr}
 use Rattle.std.specs.List.{list_any}
-use Rattle.std.proofs.lemmas.Bool.{cases_lt}
+use Rattle.std.proofs.lemmas.Bool.{cases_lt, cases_Bool}
 use Rattle.std.proofs.lemmas.List.Folds.{list_any_at}
 use Rattle.unit_model.specs.Lists.{change_at}
 use Rattle.unit_model.specs.Weights.{weigh, one_if, over_all}
@@ -83,14 +83,10 @@ weigh_one f xs i j d inside also one here there =
 
 -- ---- an element is there exactly where it counts
 
-pub bool_cases : (b : Bool) → (b ≡ true) ⊎ (b ≡ false)
-bool_cases true = inl refl
-bool_cases false = inr refl
-
 pub any_counts : {X : Type 0} (test : X → Bool) (xs : List X) → list_any test xs ≡ true → 1 ≤ weigh (λ x. one_if (test x)) xs
 any_counts test [] any = absurd (cc any)
 any_counts test (x ∷ xs) any =
-    elim (bool_cases (test x)) [
+    elim (cases_Bool (test x)) [
       | inl here ↦ omega (arith, ap one_if here)
       | inr not_here ↦ omega (arith, any_counts test xs (rw not_here at any))
     ]
@@ -98,7 +94,7 @@ any_counts test (x ∷ xs) any =
 pub none_counts : {X : Type 0} (test : X → Bool) (xs : List X) → list_any test xs ≡ false → weigh (λ x. one_if (test x)) xs ≡ 0
 none_counts test [] none = refl
 none_counts test (x ∷ xs) none =
-    elim (bool_cases (test x)) [
+    elim (cases_Bool (test x)) [
       | inl here ↦ absurd (cc (rw here at none))
       | inr not_here ↦ omega (arith, ap one_if not_here, none_counts test xs (rw not_here at none))
     ]
@@ -117,7 +113,7 @@ weigh_only f (x ∷ xs) (suc n) d lt others = omega (arith, others 0 (omega arit
 -- where no element passes, none does
 pub any_none_at : {X : Type 0} (test : X → Bool) (xs : List X) (i : ℕ) (d : X) → list_any test xs ≡ false → i < length xs → test (get_or xs i d) ≡ false
 any_none_at test xs i d none inside =
-    elim (bool_cases (test (get_or xs i d))) [
+    elim (cases_Bool (test (get_or xs i d))) [
       | inr fails ↦ fails
       | inl passes ↦ absurd (cc (none, list_any_at test xs i d inside passes))
     ]

@@ -1,5 +1,6 @@
 -- The items of the queues after one of them has changed.
-use Rattle.std.proofs.Common.{◌≡◌, ◌≢◌, ℕ, zero, suc, ◌+◌, ◌<◌, ◌≤◌, List, [], ◌∷◌, length, get_or, set, drop, refl, sym, ap, ◌∙◌, arith, inl, inr, ◌⊎◌, subst}
+use Rattle.std.proofs.Common.{◌≡◌, ◌≢◌, ℕ, suc, ◌+◌, ◌<◌, ◌≤◌, List, [], ◌∷◌, length, get_or, set, drop, refl, sym, ap, ◌∙◌, arith, inl, inr, ◌⊎◌, subst}
+use Rattle.std.proofs.lemmas.List.{get_or_past, get_or-set_same, get_or-set_other}
 use Rattle.std.proofs.lemmas.Bool.{cases_eq, cases_lt}
 use Rattle.unit_model.specs.Core.{blank, no_queue, queue_of, item_of}
 use Rattle.unit_model.specs.Lists.{change_at}
@@ -18,35 +19,13 @@ pub record SetsItem (core new : Core) (queue item : ℕ) (now : Item) : Type 0 w
   pub queues : new.queues ≡ change_at queue change core.queues
   pub items : (q : Queue) → (change q).items ≡ set q.items item now
 
-queue_past : (queues : List Queue) (queue : ℕ) → length queues ≤ queue → get_or queues queue no_queue ≡ no_queue
-queue_past [] queue past = refl
-queue_past (q ∷ queues) zero past = absurd (omega arith)
-queue_past (q ∷ queues) (suc queue) past = queue_past queues queue (omega arith)
-
-pub item_past : (items : List Item) (item : ℕ) → length items ≤ item → get_or items item blank ≡ blank
-item_past [] item past = refl
-item_past (i ∷ items) zero past = absurd (omega arith)
-item_past (i ∷ items) (suc item) past = item_past items item (omega arith)
-
 -- a queue that has an item is there
 pub queue_there : (core : Core) (queue item : ℕ) → item < length (queue_of core queue).items → queue < length core.queues
 queue_there core queue item inside =
     elim (cases_lt queue (length core.queues)) [
       | inl there ↦ there
-      | inr past ↦ absurd (omega (arith, inside, ap (λ (q : Queue). length q.items) (queue_past core.queues queue past)))
+      | inr past ↦ absurd (omega (arith, inside, ap (λ (q : Queue). length q.items) (get_or_past core.queues queue no_queue past)))
     ]
-
-set_here : {X : Type 0} (xs : List X) (n : ℕ) (x d : X) → n < length xs → get_or (set xs n x) n d ≡ x
-set_here [] n x d lt = absurd (omega arith)
-set_here (y ∷ xs) zero x d lt = refl
-set_here (y ∷ xs) (suc n) x d lt = set_here xs n x d (omega arith)
-
-set_elsewhere : {X : Type 0} (xs : List X) (n m : ℕ) (x d : X) → m ≢ n → get_or (set xs n x) m d ≡ get_or xs m d
-set_elsewhere [] n m x d other = refl
-set_elsewhere (y ∷ xs) zero zero x d other = absurd (omega arith)
-set_elsewhere (y ∷ xs) zero (suc m) x d other = refl
-set_elsewhere (y ∷ xs) (suc n) zero x d other = refl
-set_elsewhere (y ∷ xs) (suc n) (suc m) x d other = set_elsewhere xs n m x d (omega arith)
 
 -- ---- the items one by one
 
@@ -64,12 +43,12 @@ items_elsewhere core new queue item now s other away =
 pub item_here : (core new : Core) (queue item : ℕ) (now : Item) → SetsItem core new queue item now → item_of new queue item ≡ now
 item_here core new queue item now s =
     ap (λ (is : List Item). get_or is item blank) (items_here core new queue item now s)
-    ∙ set_here (queue_of core queue).items item now blank s.inside
+    ∙ get_or-set_same (queue_of core queue).items item now blank s.inside
 
 pub item_beside : (core new : Core) (queue item : ℕ) (now : Item) → SetsItem core new queue item now → (other : ℕ) → other ≢ item → item_of new queue other ≡ item_of core queue other
 item_beside core new queue item now s other away =
     ap (λ (is : List Item). get_or is other blank) (items_here core new queue item now s)
-    ∙ set_elsewhere (queue_of core queue).items item other now blank away
+    ∙ get_or-set_other (queue_of core queue).items item other now blank away
 
 pub item_elsewhere : (core new : Core) (queue item : ℕ) (now : Item) → SetsItem core new queue item now → (other i : ℕ) → other ≢ queue → item_of new other i ≡ item_of core other i
 item_elsewhere core new queue item now s other i away = ap (λ (is : List Item). get_or is i blank) (items_elsewhere core new queue item now s other away)
@@ -138,7 +117,7 @@ behind_in_all f core engine item none =
       | inl inside ↦
           let there = length_later engine core.queues (queue_there core (suc engine) item inside) in
           omega (arith, weigh_at weight backs engine no_queue there, ap weight is, weigh_at f (queue_of core (suc engine)).items item blank inside)
-      | inr past ↦ omega (arith, ap f (item_past (queue_of core (suc engine)).items item past), none)
+      | inr past ↦ omega (arith, ap f (get_or_past (queue_of core (suc engine)).items item blank past), none)
     ]
 
 -- one item of a back queue is a part of them all
@@ -154,7 +133,7 @@ behind_queue_in_all f core engine =
     let is : get_or backs engine no_queue ≡ queue_of core (suc engine) = get_later engine core.queues no_queue in
     elim (cases_lt (suc engine) (length core.queues)) [
       | inl there ↦ omega (arith, weigh_at weight backs engine no_queue (length_later engine core.queues there), ap weight is)
-      | inr past ↦ omega (arith, ap weight (queue_past core.queues (suc engine) past))
+      | inr past ↦ omega (arith, ap weight (get_or_past core.queues (suc engine) no_queue past))
     ]
 
 -- the items of one back queue are a part of them all

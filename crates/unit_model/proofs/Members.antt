@@ -1,7 +1,7 @@
 -- What is in a list counts there, and what counts there is in it.
 use Rattle.std.proofs.Common.{◌≡◌, ℕ, zero, suc, ◌<◌, ◌≤◌, true, List, [], ◌∷◌, filter, length, get_or, refl, sym, ap, ◌∙◌, arith, inl, inr, subst}
 use Rattle.std.specs.Prelude.{Contains}
-use Rattle.std.proofs.lemmas.Bool.{cases_lt, eq-eqb, eqb-true}
+use Rattle.std.proofs.lemmas.Bool.{cases_lt, eq-eqb, eqb-true, cases_Bool}
 use Rattle.unit_model.specs.Core.{seat_of, no_seat}
 use Rattle.unit_model.specs.PartCounts.{is_of_stream, of_stream, same_part, no_part}
 use Rattle.unit_model.specs.StreamCounts.{by_all}
@@ -9,7 +9,6 @@ use Rattle.unit_model.specs.Weights.{weigh, one_if, is_number, times, over_all}
 use Rattle.unit_model.specs.declared.machine.Core.{Core}
 use Rattle.unit_model.specs.declared.machine.Part.{Part}
 use Rattle.unit_model.specs.declared.machine.Seat.{Seat as SeatLists}
-use Rattle.unit_model.proofs.Changes.{bool_cases}
 use Rattle.unit_model.proofs.PartNotes.{one_itself}
 use Rattle.unit_model.proofs.PartSteps.{counted_is}
 use Rattle.unit_model.proofs.SeatNotes.{seat_in_all, is_there_of}
@@ -62,7 +61,7 @@ place_from stream first parts part zero inside is this =
 place_from stream first [] part (suc k) inside is this = absurd (omega (arith, inside))
 place_from stream first (second ∷ parts) part (suc k) inside is this =
     let rest = place_from stream second parts part k (omega (arith, inside)) is this in
-    elim (bool_cases (is_of_stream stream first)) [
+    elim (cases_Bool (is_of_stream stream first)) [
       | inl passes ↦ rw passes (suc (rest.0), omega (arith, rest.1), rest.2)
       | inr fails ↦ rw fails rest
     ]
@@ -85,7 +84,7 @@ part_from stream first parts found passes rest (suc j) inside =
 pub part_at_place : (stream : ℕ) (parts : List Part) (j : ℕ) → j < length (filter (is_of_stream stream) parts) → Contains parts (get_or (filter (is_of_stream stream) parts) j no_part) × ((get_or (filter (is_of_stream stream) parts) j no_part).stream ≡ stream)
 part_at_place stream [] j inside = absurd (omega (arith, inside))
 part_at_place stream (first ∷ parts) j inside =
-    elim (bool_cases (is_of_stream stream first)) [
+    elim (cases_Bool (is_of_stream stream first)) [
       | inl passes ↦ rw passes (part_from stream first parts (filter (is_of_stream stream) parts) passes (part_at_place stream parts) j (rw passes at inside))
       | inr fails ↦ rw fails (
           let rest = part_at_place stream parts j (rw fails at inside) in

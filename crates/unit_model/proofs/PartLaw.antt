@@ -2,7 +2,7 @@
 use Rattle.std.proofs.Common.{◌≡◌, ◌≢◌, ℕ, ◌+◌, ◌-◌, ◌<◌, ◌≤◌, ◌^◌, ◌==◌, ◌&&◌, not, nat_le, Bool, true, false, if◌then◌else◌, List, [], ◌∷◌, length, refl, sym, ap, ◌∙◌, arith, inl, inr, subst}
 use Rattle.std.specs.Prelude.{None}
 use Rattle.std.specs.List.{list_any}
-use Rattle.std.proofs.lemmas.Bool.{and_parts, leb-true, eqb-true, eq-eqb, ne_eqb, cases_eq}
+use Rattle.std.proofs.lemmas.Bool.{and_parts, leb-true, eqb-true, eq-eqb, ne_eqb, cases_eq, cases_Bool}
 use Rattle.unit_model.specs.Conditions.{first_unmet, conditions_of, has_stream, is_either, has_tag, seat_holds, holds, holds_tagged, is_first_free_item, may_arm, may_send, is_last_sent, is_closed, parts_sent, part_of, is_same_part}
 use Rattle.unit_model.specs.Core.{queue_of, item_of, role_of, seat_of, number_in, first_item, whereabouts_code}
 use Rattle.unit_model.specs.Effects.{after_step, noted, with_note, with_item, with_owner, with_run_owner, with_opened, with_in_line, with_free, without_first_free, without_first_in_line}
@@ -24,7 +24,6 @@ use Rattle.unit_model.specs.declared.machine.Step.TheVariants.{Draw, Claim, Rele
 use Rattle.unit_model.specs.declared.machine.Whereabouts.{Whereabouts}
 use Rattle.unit_model.specs.declared.machine.Whereabouts.TheVariants.{InFreeList, InLine, WithSeat}
 use Rattle.unit_model.specs.declared.runs.Run.{Run}
-use Rattle.unit_model.proofs.Changes.{bool_cases}
 use Rattle.unit_model.proofs.ItemChanges.{SetsItem, queue_there}
 use Rattle.unit_model.proofs.MetConditions.{each_met, test_of}
 use Rattle.unit_model.proofs.PartFrames.{SameBacks, Rises, backs_with_queues, backs_beside, backs_quiet, parts_kept}
@@ -74,7 +73,7 @@ few_items core queue item held inside =
 -- the first item of a free list has no tag
 first_free : (queue : Queue) (seats item : ℕ) → HasItsItems seats queue → item < 2 ^ 32 → item ≡ first_item queue.free → (item_in queue item).tag ≡ 0
 first_free queue seats item items small first =
-    elim (bool_cases (has_item queue item && is_in_free_list (item_in queue item).whereabouts)) [
+    elim (cases_Bool (has_item queue item && is_in_free_list (item_in queue item).whereabouts)) [
       | inl free ↦ items.untagged item (free_of (item_in queue item).whereabouts (and_parts (has_item queue item) _ free).1)
       | inr other ↦ absurd (not_there queue.free item small first (items.free item ∙ ap one_if other))
     ]
@@ -229,7 +228,7 @@ after_settle_line core seat item stream false role streams old met =
 none_closed : (stream : ℕ) (seats : List SeatLists) → list_any (λ lists. has_stream stream lists.closed) seats ≡ false → over_all (is_number stream) closed seats ≡ 0
 none_closed stream [] none = refl
 none_closed stream (l ∷ seats) none =
-    elim (bool_cases (has_stream stream l.closed)) [
+    elim (cases_Bool (has_stream stream l.closed)) [
       | inl here ↦ absurd (cc (rw here at none))
       | inr away ↦ omega (arith, has_not_counts stream l.closed away, none_closed stream seats (rw away at none))
     ]

@@ -1,9 +1,9 @@
 -- The sent parts of one stream after one more was sent.
-use Rattle.std.proofs.Common.{◌≡◌, ◌≢◌, ℕ, zero, suc, ◌+◌, ◌<◌, ◌≤◌, ◌==◌, ◌&&◌, ◌||◌, Bool, true, false, List, [], ◌∷◌, ◌++◌, filter, length, get_or, refl, ap, ◌∙◌, arith, inl, inr, ◌⊎◌}
+use Rattle.std.proofs.Common.{◌≡◌, ◌≢◌, ℕ, zero, suc, ◌+◌, ◌<◌, ◌≤◌, ◌==◌, ◌&&◌, true, false, List, [], ◌∷◌, ◌++◌, filter, length, get_or, refl, ap, ◌∙◌, arith, inl, inr, ◌⊎◌}
 use Rattle.std.specs.List.{list_any}
 use Rattle.std.proofs.Math.Seq.{get_or-append_seam}
-use Rattle.std.proofs.lemmas.Bool.{cases_eq, cases_lt, eq-eqb, ne_eqb}
-use Rattle.std.proofs.lemmas.List.{get_or_append_left}
+use Rattle.std.proofs.lemmas.Bool.{cases_eq, cases_lt, eq-eqb, ne_eqb, cases_Bool, or_parts}
+use Rattle.std.proofs.lemmas.List.{get_or_append_left, length_push, append-nil}
 use Rattle.std.proofs.lemmas.List.Elements.{filter-append}
 use Rattle.unit_model.specs.Conditions.{is_last_sent, parts_sent}
 use Rattle.unit_model.specs.Core.{seat_of, no_seat}
@@ -13,23 +13,19 @@ use Rattle.unit_model.specs.Weights.{weigh}
 use Rattle.unit_model.specs.declared.machine.Core.{Core}
 use Rattle.unit_model.specs.declared.machine.Part.{Part}
 use Rattle.unit_model.specs.declared.machine.Seat.{Seat as SeatLists}
-use Rattle.unit_model.proofs.Changes.{any_none_at, bool_cases, weigh_only}
+use Rattle.unit_model.proofs.Changes.{any_none_at, weigh_only}
 use Rattle.unit_model.proofs.PartNotes.{PartsGrow, parts_sent_is}
 use Rattle.unit_model.proofs.SeatNotes.{one_seat}
 use Rattle.unit_model.proofs.StreamSteps.{posted_at_most_once}
 
 -- ---- a list that has grown
 
-pub push_length : {X : Type 0} (xs : List X) (x : X) → length (xs ++ x ∷ []) ≡ length xs + 1
-push_length [] x = refl
-push_length (y ∷ xs) x = omega (arith, push_length xs x)
-
 pub ordered_push : (parts : List Part) (part : Part) → ((j : ℕ) → j < length parts → (get_or parts j no_part).number ≡ j) → part.number ≡ length parts → (j : ℕ) → j < length (parts ++ part ∷ []) → (get_or (parts ++ part ∷ []) j no_part).number ≡ j
 ordered_push parts part old next j inside =
     elim (cases_lt j (length parts)) [
       | inl before ↦ ap (λ (p : Part). p.number) (get_or_append_left parts (part ∷ []) no_part j before) ∙ old j before
       | inr last ↦
-          let here : j ≡ length parts = omega (arith, last, inside, push_length parts part) in
+          let here : j ≡ length parts = omega (arith, last, inside, length_push parts part) in
           rw here (ap (λ (p : Part). p.number) (get_or-append_seam parts part [] no_part) ∙ next)
     ]
 
@@ -37,7 +33,7 @@ pub final_push : (parts : List Part) (part : Part) → ((j : ℕ) → j < length
 final_push parts part unmarked j inside last =
     elim (cases_lt j (length parts)) [
       | inl before ↦ absurd (cc (last, ap (λ (p : Part). p.last) (get_or_append_left parts (part ∷ []) no_part j before), unmarked j before))
-      | inr past ↦ omega (arith, past, inside, push_length parts part)
+      | inr past ↦ omega (arith, past, inside, length_push parts part)
     ]
 
 -- ---- the sent parts of a stream
@@ -47,10 +43,6 @@ sent_parts_here core new seat part stream g this =
     ap (filter (is_of_stream stream)) g.here ∙ filter-append (is_of_stream stream) (seat_of core seat).sent (part ∷ [])
     ∙ ap (λ ps. sent_parts core seat stream ++ ps) (rw (eq-eqb part.stream stream this) refl)
 
-append_none : {X : Type 0} (xs : List X) → xs ++ [] ≡ xs
-append_none [] = refl
-append_none (x ∷ xs) = ap (λ ys. x ∷ ys) (append_none xs)
-
 pub sent_parts_other : (core new : Core) (seat : ℕ) (part : Part) (stream k : ℕ) → PartsGrow sent core new seat part → (k ≢ seat) ⊎ (part.stream ≢ stream) → sent_parts new k stream ≡ sent_parts core k stream
 sent_parts_other core new seat part stream k g (inl away) = ap (filter (is_of_stream stream)) (g.elsewhere k away)
 sent_parts_other core new seat part stream k g (inr other) =
@@ -59,16 +51,8 @@ sent_parts_other core new seat part stream k g (inr other) =
       | inl here ↦ rw here (
           ap (filter (is_of_stream stream)) g.here ∙ filter-append (is_of_stream stream) (seat_of core seat).sent (part ∷ [])
           ∙ ap (λ ps. sent_parts core seat stream ++ ps) (rw (ne_eqb part.stream stream other) refl)
-          ∙ append_none (sent_parts core seat stream))
+          ∙ append-nil (sent_parts core seat stream))
     ]
-
-or_left : (a b : Bool) → (a || b) ≡ false → a ≡ false
-or_left true b none = none
-or_left false b none = refl
-
-or_right : (a b : Bool) → (a || b) ≡ false → b ≡ false
-or_right true b none = absurd (cc none)
-or_right false b none = none
 
 marked : (parts : List Part) (part : Part) → part.last ≡ false → ((j : ℕ) → j < length parts → (get_or parts j no_part).last ≡ false) → (j : ℕ) → j < length (part ∷ parts) → (get_or (part ∷ parts) j no_part).last ≡ false
 marked parts part here rest zero inside = here
@@ -78,9 +62,11 @@ marked parts part here rest (suc j) inside = rest j (omega (arith, inside))
 marks : (stream : ℕ) (parts : List Part) → list_any (λ part. part.stream == stream && part.last) parts ≡ false → (j : ℕ) → j < length (filter (is_of_stream stream) parts) → (get_or (filter (is_of_stream stream) parts) j no_part).last ≡ false
 marks stream [] none j inside = refl
 marks stream (part ∷ parts) none j inside =
-    elim (bool_cases (part.stream == stream)) [
+    elim (cases_Bool (part.stream == stream)) [
       | inr other ↦ rw other (marks stream parts (rw other at none) j (rw other at inside))
-      | inl this ↦ rw this (marked (filter (is_of_stream stream) parts) part (or_left part.last _ (rw this at none)) (marks stream parts (or_right part.last _ (rw this at none))) j (rw this at inside))
+      | inl this ↦
+          let both = or_parts part.last (list_any (λ p. p.stream == stream && p.last) parts) (rw this at none) in
+          rw this (marked (filter (is_of_stream stream) parts) part both.0 (marks stream parts both.1) j (rw this at inside))
     ]
 
 pub none_last : (core : Core) (seat stream : ℕ) → seat < length core.seats → is_last_sent core stream ≡ false → (j : ℕ) → j < length (sent_parts core seat stream) → (get_or (sent_parts core seat stream) j no_part).last ≡ false

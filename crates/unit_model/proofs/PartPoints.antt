@@ -1,7 +1,7 @@
 -- What the counts of parts say, point by point.
 use Rattle.std.proofs.Common.{◌≡◌, ◌≢◌, ℕ, suc, ◌+◌, ◌-◌, ◌<◌, ◌≤◌, ◌==◌, ◌&&◌, nat_lt, true, false, List, [], ◌∷◌, length, get_or, refl, sym, ap, ◌∙◌, arith, inl, inr, subst}
 use Rattle.std.specs.Prelude.{Contains}
-use Rattle.std.proofs.lemmas.Bool.{cases_eq, cases_lt, eq-eqb, ne_eqb, lt-ltb, and_parts, eqb-true}
+use Rattle.std.proofs.lemmas.Bool.{cases_eq, cases_lt, eq-eqb, ne_eqb, lt-ltb, and_parts, eqb-true, cases_Bool}
 use Rattle.unit_model.specs.Conditions.{parts_sent}
 use Rattle.unit_model.specs.Core.{blank, queue_of, item_of, number_in, seat_of, no_seat}
 use Rattle.unit_model.specs.Holding.{IsArmed}
@@ -12,7 +12,7 @@ use Rattle.unit_model.specs.Weights.{weigh, one_if, is_number, over_all}
 use Rattle.unit_model.specs.declared.machine.Core.{Core}
 use Rattle.unit_model.specs.declared.machine.Part.{Part}
 use Rattle.unit_model.specs.declared.machine.Seat.{Seat as SeatLists}
-use Rattle.unit_model.proofs.Changes.{bool_cases, weigh_one}
+use Rattle.unit_model.proofs.Changes.{weigh_one}
 use Rattle.unit_model.proofs.ItemChanges.{back_queue_in_all}
 use Rattle.unit_model.proofs.Members.{member_counts, counted_member, part_of_stream, place_of, weight_of_seat, weighs_in_all, weigh_le_members}
 use Rattle.unit_model.proofs.PartFrames.{carries_this}
@@ -93,7 +93,7 @@ received_once core counts parts stream number =
 -- a received last part has one number
 last_is_number : (core : Core) → StreamCounts core → PartCounts core → (seat : ℕ) (stream : ℕ) (part : Part) → Contains (seat_of core seat).received part → last_of stream part ≤ of_number stream (parts_sent core stream - 1) part
 last_is_number core counts parts seat stream part here =
-    elim (bool_cases (part.stream == stream && part.last)) [
+    elim (cases_Bool (part.stream == stream && part.last)) [
       | inr other ↦ omega (arith, ap one_if other)
       | inl last ↦
           let tests = and_parts (part.stream == stream) part.last last in

@@ -1,5 +1,6 @@
 -- The counts of parts after a part is sent.
 use Rattle.std.proofs.Common.{◌≡◌, ◌≢◌, ℕ, ◌+◌, ◌<◌, ◌≤◌, ◌==◌, ◌&&◌, nat_lt, true, false, [], ◌∷◌, ◌++◌, length, get_or, refl, sym, ap, ◌∙◌, arith, inl, inr, ◌⊎◌}
+use Rattle.std.proofs.lemmas.List.{get_or_past}
 use Rattle.std.proofs.lemmas.Bool.{cases_eq, cases_lt, eq-eqb, ne_eqb, lt-ltb, le-ltb}
 use Rattle.std.proofs.lemmas.List.Folds.{list_any_at}
 use Rattle.unit_model.specs.Conditions.{parts_sent, part_of, is_last_sent, holds_tagged}
@@ -13,7 +14,7 @@ use Rattle.unit_model.specs.declared.machine.Note.TheVariants.{Sent}
 use Rattle.unit_model.specs.declared.machine.Part.{Part}
 use Rattle.unit_model.specs.declared.machine.Whereabouts.{Whereabouts}
 use Rattle.unit_model.specs.declared.machine.Whereabouts.TheVariants.{WithSeat}
-use Rattle.unit_model.proofs.ItemChanges.{SetsItem, each_item, backs_change, item_past}
+use Rattle.unit_model.proofs.ItemChanges.{SetsItem, each_item, backs_change}
 use Rattle.unit_model.proofs.PartFrames.{carries_none, carries_other, same_withdrawn}
 use Rattle.unit_model.proofs.PartLists.{ordered_push, final_push, sent_parts_here, sent_parts_other, none_last, sent_alone, taken_at_most_once}
 use Rattle.unit_model.proofs.PartNotes.{PartsStay, PartsGrow, parts_stay, parts_grow, parts_here, parts_rise, parts_before, parts_sent_is, sent_length, one_itself}
@@ -41,7 +42,7 @@ held_is_found : (core : Core) (seat engine item stream : ℕ) → stream ≢ 0 �
 held_is_found core seat engine item stream some held tag =
     let items = (queue_of core (1 + engine)).items in
     elim (cases_lt item (length items)) [
-      | inr past ↦ absurd (omega (arith, some, tag, ap (λ (i : Item). i.tag) (item_past items item past)))
+      | inr past ↦ absurd (omega (arith, some, tag, ap (λ (i : Item). i.tag) (get_or_past items item blank past)))
       | inl inside ↦
           let code : whereabouts_code (get_or items item blank).whereabouts ≡ 1 + seat = ap whereabouts_code held in
           list_any_at (λ i. whereabouts_code i.whereabouts == 1 + seat && i.tag == stream) items item blank inside

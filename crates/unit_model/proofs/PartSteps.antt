@@ -1,6 +1,6 @@
 -- The counts of parts after a part is sent, received, or taken back.
 use Rattle.std.proofs.Common.{◌≡◌, ◌≢◌, ℕ, ◌+◌, ◌≤◌, ◌==◌, nat_lt, Bool, true, false, filter, refl, sym, ap, ◌∙◌, arith, inl, inr}
-use Rattle.std.proofs.lemmas.Bool.{cases_eq, cases_lt, eq-eqb, ne_eqb}
+use Rattle.std.proofs.lemmas.Bool.{cases_eq, cases_lt, eq-eqb, ne_eqb, cases_Bool}
 use Rattle.unit_model.specs.Conditions.{parts_sent, part_of, is_same_part}
 use Rattle.unit_model.specs.Core.{blank, item_of, number_in, role_of}
 use Rattle.unit_model.specs.PartCounts.{PartCounts, is_of_stream, of_stream, of_number, same_part, parts_by_seat, sent, received, sent_parts, times_sent, carries, times_under_way, times_withdrawn}
@@ -11,7 +11,6 @@ use Rattle.unit_model.specs.declared.machine.Item.{Item}
 use Rattle.unit_model.specs.declared.machine.Note.TheVariants.{Received, Closed}
 use Rattle.unit_model.specs.declared.machine.Part.{Part}
 use Rattle.unit_model.specs.declared.machine.Whereabouts.TheVariants.{WithSeat}
-use Rattle.unit_model.proofs.Changes.{bool_cases}
 use Rattle.unit_model.proofs.ItemChanges.{SetsItem, each_item, backs_change, back_item_in_all}
 use Rattle.unit_model.proofs.PartFrames.{carries_none, carries_other, carries_this, same_withdrawn, sent_stays}
 use Rattle.unit_model.proofs.PartNotes.{PartsStay, PartsGrow, parts_stay, parts_grow, parts_before, same_is}
@@ -36,7 +35,7 @@ of_this one stream number last counts =
 -- what counts as the same part is it
 pub counted_is : (one other : Part) → 1 ≤ same_part one other → one ≡ other
 counted_is one other counts =
-    elim (bool_cases (is_same_part one other)) [
+    elim (cases_Bool (is_same_part one other)) [
       | inl same ↦ same_is one other same
       | inr differs ↦ absurd (omega (arith, counts, ap one_if differs))
     ]
@@ -94,7 +93,7 @@ receives core new seat item now shape adds sets untagged some old =
 
 pub withdrawn_zero : (core : Core) (stream number : ℕ) → by_all closed core stream ≡ 0 → times_withdrawn core stream number ≡ 0
 withdrawn_zero core stream number none =
-    elim (bool_cases (number + 1 == parts_sent core stream)) [
+    elim (cases_Bool (number + 1 == parts_sent core stream)) [
       | inl final ↦ rw final none
       | inr not_final ↦ rw not_final refl
     ]
@@ -111,7 +110,7 @@ one_if_small false = omega arith
 
 pub carries_past : (stream number : ℕ) (item : Item) → number_in item.part ≢ number → carries stream number item ≡ 0
 carries_past stream number item other =
-    elim (bool_cases (item.tag == stream)) [
+    elim (cases_Bool (item.tag == stream)) [
       | inl this ↦ rw this (rw (ne_eqb (number_in item.part) number other) refl)
       | inr beside ↦ rw beside refl
     ]

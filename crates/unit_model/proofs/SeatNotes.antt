@@ -1,5 +1,6 @@
 -- The counts of streams over the seats after one seat has added a note.
-use Rattle.std.proofs.Common.{◌≡◌, ◌≢◌, ℕ, zero, suc, ◌+◌, ◌<◌, ◌≤◌, ◌==◌, true, false, List, [], ◌∷◌, ◌++◌, length, get_or, refl, ap, ◌∙◌, arith, inl, inr}
+use Rattle.std.proofs.Common.{◌≡◌, ◌≢◌, ℕ, ◌+◌, ◌<◌, ◌≤◌, ◌==◌, true, false, List, [], ◌∷◌, ◌++◌, length, get_or, ap, ◌∙◌, arith, inl, inr}
+use Rattle.std.proofs.lemmas.List.{get_or_past}
 use Rattle.std.proofs.lemmas.Bool.{cases_eq, cases_lt}
 use Rattle.unit_model.specs.Conditions.{has_stream}
 use Rattle.unit_model.specs.Core.{seat_of, no_seat}
@@ -77,17 +78,12 @@ has_counts stream streams has = any_counts (λ other. other == stream) streams h
 pub has_not_counts : (stream : ℕ) (streams : List ℕ) → has_stream stream streams ≡ false → times stream streams ≡ 0
 has_not_counts stream streams has = none_counts (λ other. other == stream) streams has
 
-past_end : (seats : List SeatLists) (seat : ℕ) → length seats ≤ seat → get_or seats seat no_seat ≡ no_seat
-past_end [] seat past = refl
-past_end (l ∷ seats) zero past = absurd (omega arith)
-past_end (l ∷ seats) (suc seat) past = past_end seats seat (omega arith)
-
 -- a seat that isn't there has nothing
 pub is_there_of : {X : Type 0} (f : X → ℕ) (list : SeatLists → List X) (core : Core) (seat : ℕ) → list no_seat ≡ [] → 1 ≤ weigh f (list (seat_of core seat)) → seat < length core.seats
 is_there_of f list core seat none some =
     elim (cases_lt seat (length core.seats)) [
       | inl inside ↦ inside
-      | inr outside ↦ absurd (let gone = past_end core.seats seat outside in omega (arith, some, ap (λ (l : SeatLists). weigh f (list l)) gone, ap (weigh f) none))
+      | inr outside ↦ absurd (let gone = get_or_past core.seats seat no_seat outside in omega (arith, some, ap (λ (l : SeatLists). weigh f (list l)) gone, ap (weigh f) none))
     ]
 
 -- one seat's list is a part of them all
@@ -95,7 +91,7 @@ pub seat_in_all : (list : SeatLists → List ℕ) (core : Core) (seat stream : �
 seat_in_all list core seat stream none =
     elim (cases_lt seat (length core.seats)) [
       | inl inside ↦ over_all_at (is_number stream) list core.seats seat no_seat inside
-      | inr outside ↦ omega (arith, ap (λ (l : SeatLists). times stream (list l)) (past_end core.seats seat outside), ap (times stream) none)
+      | inr outside ↦ omega (arith, ap (λ (l : SeatLists). times stream (list l)) (get_or_past core.seats seat no_seat outside), ap (times stream) none)
     ]
 
 -- two seats that have a stream which stands there once are one

@@ -1,5 +1,6 @@
 -- What each step keeps, each list of steps keeps; and what is kept says each point.
 use Rattle.std.proofs.Common.{◌≡◌, ℕ, false, List, [], ◌∷◌, arith, refl, inl, inr}
+use Rattle.std.proofs.lemmas.Bool.{cases_Bool}
 use Rattle.unit_model.specs.Conditions.{has_stream}
 use Rattle.unit_model.specs.Core.{seat_of}
 use Rattle.unit_model.specs.Effects.{after_step}
@@ -14,7 +15,6 @@ use Rattle.unit_model.specs.Weights.{times}
 use Rattle.unit_model.specs.declared.machine.Core.{Core}
 use Rattle.unit_model.specs.declared.machine.Step.{Step}
 use Rattle.unit_model.specs.declared.shape.Shape.{Shape}
-use Rattle.unit_model.proofs.Changes.{bool_cases}
 use Rattle.unit_model.proofs.HeldOpening.{opened_holds_right}
 use Rattle.unit_model.proofs.HeldSound.{sound_from_held, names_from_held, held_from_sound}
 use Rattle.unit_model.proofs.HeldSteps.{step_holds_right}
@@ -62,7 +62,7 @@ points_of_sound core sound = record {
 -- what doesn't count isn't there
 not_there : (stream : ℕ) (streams : List ℕ) → times stream streams ≡ 0 → has_stream stream streams ≡ false
 not_there stream streams none =
-    elim (bool_cases (has_stream stream streams)) [
+    elim (cases_Bool (has_stream stream streams)) [
       | inr away ↦ away
       | inl here ↦ absurd (omega (arith, none, has_counts stream streams here))
     ]

@@ -1,7 +1,7 @@
 -- What the conditions of a step say, and what its effect is on seats and items.
 use Rattle.std.proofs.Common.{◌≡◌, ◌≢◌, ℕ, ◌+◌, ◌<◌, ◌-◌, ◌^◌, ◌==◌, ◌&&◌, nat_lt, nat_le, Bool, true, false, if◌then◌else◌, [], ◌∷◌, ◌++◌, length, set, drop, refl, ap, arith, inl, inr}
 use Rattle.std.specs.Prelude.{None}
-use Rattle.std.proofs.lemmas.Bool.{and_parts, ltb-true, eqb-true, ne_eqb}
+use Rattle.std.proofs.lemmas.Bool.{and_parts, ltb-true, eqb-true, ne_eqb, cases_Bool}
 use Rattle.unit_model.specs.Conditions.{unless, is_engine, is_either, is_there, may_fill, may_empty, may_use, has_tag, part_of}
 use Rattle.unit_model.specs.Core.{queue_of, item_of, role_of, whereabouts_code}
 use Rattle.unit_model.specs.Effects.{after_step, with_note, with_item, with_run_owner, with_in_line, with_free, without_first_free, without_first_in_line, noted, armed_note, settled_note}
@@ -15,7 +15,7 @@ use Rattle.unit_model.specs.declared.machine.Step.TheVariants.{Draw, GetItem, Se
 use Rattle.unit_model.specs.declared.machine.Whereabouts.{Whereabouts}
 use Rattle.unit_model.specs.declared.machine.Whereabouts.TheVariants.{InFreeList, InLine, WithSeat}
 use Rattle.unit_model.specs.declared.runs.Run.{Run}
-use Rattle.unit_model.proofs.Changes.{bool_cases, changed_twice}
+use Rattle.unit_model.proofs.Changes.{changed_twice}
 use Rattle.unit_model.proofs.ItemChanges.{SetsItem}
 use Rattle.unit_model.proofs.MetConditions.{test_of}
 use Rattle.unit_model.proofs.SeatNotes.{Adds}
@@ -24,9 +24,9 @@ use Rattle.unit_model.proofs.SeatNotes.{Adds}
 
 seat_below : (engines workers seat : ℕ) → nat_le (if nat_lt seat engines then 0 else if nat_lt seat (engines + workers) then 1 else 3) 1 ≡ true → seat < engines + workers
 seat_below engines workers seat met =
-    elim (bool_cases (nat_lt seat engines)) [
+    elim (cases_Bool (nat_lt seat engines)) [
       | inl engine ↦ omega (arith, ltb-true seat engines engine)
-      | inr other ↦ elim (bool_cases (nat_lt seat (engines + workers))) [
+      | inr other ↦ elim (cases_Bool (nat_lt seat (engines + workers))) [
         | inl worker ↦ ltb-true seat (engines + workers) worker
         | inr past ↦ absurd (cc (rw past at (rw other at met)))
       ]

@@ -2,7 +2,7 @@
 use Rattle.std.proofs.Common.{◌≡◌, ℕ, zero, suc, ◌+◌, ◌-◌, ◌<◌, ◌≤◌, ◌==◌, ◌&&◌, ◌||◌, not, Bool, true, false, List, [], ◌∷◌, get_or, refl, sym, ap, ◌∙◌, arith, inl, inr}
 use Rattle.std.specs.Prelude.{Contains}
 use Rattle.std.specs.List.{list_any}
-use Rattle.std.proofs.lemmas.Bool.{cases_eq, cases_lt, and_parts}
+use Rattle.std.proofs.lemmas.Bool.{cases_eq, cases_lt, and_parts, cases_Bool}
 use Rattle.unit_model.specs.Conditions.{has_stream}
 use Rattle.unit_model.specs.Core.{seat_of, no_seat}
 use Rattle.unit_model.specs.CountLaws.{StreamsAddUp}
@@ -13,7 +13,7 @@ use Rattle.unit_model.specs.Weights.{weigh, one_if, is_number, times, over_all, 
 use Rattle.unit_model.specs.declared.machine.Core.{Core}
 use Rattle.unit_model.specs.declared.machine.Part.{Part}
 use Rattle.unit_model.specs.declared.machine.Seat.{Seat as SeatLists}
-use Rattle.unit_model.proofs.Changes.{any_counts, bool_cases}
+use Rattle.unit_model.proofs.Changes.{any_counts}
 use Rattle.unit_model.proofs.Members.{counts_in_all, weigh_members, weight_of_member}
 use Rattle.unit_model.proofs.PartPoints.{received_was_sent, sender_takes}
 use Rattle.unit_model.proofs.PartSteps.{of_this}
@@ -28,7 +28,7 @@ use Rattle.unit_model.proofs.Weights.{is_number_other, weigh_le, weigh-below, be
 any_in_all : (list : SeatLists → List ℕ) (stream : ℕ) (seats : List SeatLists) → list_any (λ lists. has_stream stream (list lists)) seats ≡ true → 1 ≤ over_all (is_number stream) list seats
 any_in_all list stream [] any = absurd (cc any)
 any_in_all list stream (l ∷ seats) any =
-    elim (bool_cases (has_stream stream (list l))) [
+    elim (cases_Bool (has_stream stream (list l))) [
       | inl here ↦ omega (arith, has_counts stream (list l) here)
       | inr away ↦ omega (arith, any_in_all list stream seats (rw away at any))
     ]
@@ -36,7 +36,7 @@ any_in_all list stream (l ∷ seats) any =
 none_in_all : (list : SeatLists → List ℕ) (stream : ℕ) (seats : List SeatLists) → list_any (λ lists. has_stream stream (list lists)) seats ≡ false → over_all (is_number stream) list seats ≡ 0
 none_in_all list stream [] none = refl
 none_in_all list stream (l ∷ seats) none =
-    elim (bool_cases (has_stream stream (list l))) [
+    elim (cases_Bool (has_stream stream (list l))) [
       | inl here ↦ absurd (cc (rw here at none))
       | inr away ↦ omega (arith, has_not_counts stream (list l) away, none_in_all list stream seats (rw away at none))
     ]
@@ -44,7 +44,7 @@ none_in_all list stream (l ∷ seats) none =
 -- where a stream stands at most once, the test counts it
 pub counted_once : (list : SeatLists → List ℕ) (core : Core) (stream : ℕ) → by_all list core stream ≤ 1 → one_if (is_in list core stream) ≡ by_all list core stream
 counted_once list core stream once =
-    elim (bool_cases (is_in list core stream)) [
+    elim (cases_Bool (is_in list core stream)) [
       | inl some ↦ omega (arith, ap one_if some, once, any_in_all list stream core.seats some)
       | inr none ↦ omega (arith, ap one_if none, none_in_all list stream core.seats none)
     ]
@@ -56,7 +56,7 @@ accepting stream [] any = absurd (cc any)
 accepting stream (l ∷ seats) any =
     let received_last = list_any (λ part. part.stream == stream && part.last) l.received in
     let kept = not (has_stream stream l.abandoned) in
-    elim (bool_cases (received_last && kept)) [
+    elim (cases_Bool (received_last && kept)) [
       | inl here ↦
           let tests = and_parts received_last kept here in
           (0, any_counts (λ part. part.stream == stream && part.last) l.received tests.0, has_not_counts stream l.abandoned (not_true (has_stream stream l.abandoned) tests.1))
@@ -171,7 +171,7 @@ drawn_below core counts stream some =
 
 not_accepted : (core : Core) → StreamCounts core → PartCounts core → (stream : ℕ) → by_all posted core stream ≡ 0 → is_accepted core stream ≡ false
 not_accepted core counts parts stream none =
-    elim (bool_cases (is_accepted core stream)) [
+    elim (cases_Bool (is_accepted core stream)) [
       | inr is ↦ is
       | inl accepted ↦ absurd (omega (arith, none, (accepted_facts core counts parts stream accepted).0))
     ]

@@ -2,7 +2,7 @@
 use Rattle.std.proofs.Common.{◌≡◌, ◌≢◌, ℕ, ◌≤◌, ◌^◌, ◌==◌, ◌&&◌, ◌||◌, not, nat_lt, Bool, true, false, if◌then◌else◌, List, [], ◌∷◌, refl, arith, inl, inr}
 use Rattle.std.specs.Prelude.{None}
 use Rattle.std.specs.List.{list_any}
-use Rattle.std.proofs.lemmas.Bool.{and_parts, eqb-true, eq-eqb, cases_eq}
+use Rattle.std.proofs.lemmas.Bool.{and_parts, eqb-true, eq-eqb, cases_eq, cases_Bool}
 use Rattle.unit_model.specs.Conditions.{first_unmet, conditions_of, has_stream, is_next_stream, may_arm, may_post, may_settle, may_win_request, may_win_part, may_abandon, is_taken, part_of}
 use Rattle.unit_model.specs.Core.{item_of, role_of, seat_of}
 use Rattle.unit_model.specs.Effects.{after_step, with_note, with_item, with_owner, with_run_owner, with_opened, with_in_line, with_free, without_first_free, without_first_in_line}
@@ -18,7 +18,6 @@ use Rattle.unit_model.specs.declared.machine.Seat.{Seat as SeatLists}
 use Rattle.unit_model.specs.declared.machine.Step.{Step}
 use Rattle.unit_model.specs.declared.machine.Step.TheVariants.{Draw, Claim, Release, Open, GetItem, SetRun, SetPart, Arm, Push, Pop, Settle, GiveItem, Abandon}
 use Rattle.unit_model.specs.declared.runs.Run.{Run}
-use Rattle.unit_model.proofs.Changes.{bool_cases}
 use Rattle.unit_model.proofs.ItemChanges.{SetsItem}
 use Rattle.unit_model.proofs.MetConditions.{each_met, test_of}
 use Rattle.unit_model.proofs.SeatNotes.{Adds, has_counts, has_not_counts, stays}
@@ -242,7 +241,7 @@ or_parts false b none = (refl, none)
 pub taken_counts : (stream : ℕ) (seats : List SeatLists) → list_any (λ lists. has_stream stream lists.taken) seats ≡ true → 1 ≤ over_all (is_number stream) taken seats
 taken_counts stream [] any = absurd (cc any)
 taken_counts stream (l ∷ seats) any =
-    elim (bool_cases (has_stream stream l.taken)) [
+    elim (cases_Bool (has_stream stream l.taken)) [
       | inl here ↦ omega (arith, has_counts stream l.taken here)
       | inr away ↦ omega (arith, taken_counts stream seats (rw away at any))
     ]

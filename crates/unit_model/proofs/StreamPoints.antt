@@ -1,5 +1,6 @@
 -- What the counts of streams say, point by point.
 use Rattle.std.proofs.Common.{◌≡◌, ◌≢◌, ℕ, ◌+◌, ◌<◌, ◌≤◌, length, refl, ap, ◌∙◌, arith, inl, inr}
+use Rattle.std.proofs.lemmas.List.{get_or_past}
 use Rattle.std.proofs.lemmas.Bool.{cases_eq, cases_lt}
 use Rattle.unit_model.specs.Core.{blank, queue_of, item_of, seat_of}
 use Rattle.unit_model.specs.Holding.{IsArmed}
@@ -10,7 +11,6 @@ use Rattle.unit_model.specs.Weights.{weigh, is_number}
 use Rattle.unit_model.specs.declared.machine.Core.{Core}
 use Rattle.unit_model.specs.declared.machine.Item.{Item}
 use Rattle.unit_model.proofs.Changes.{weigh_one}
-use Rattle.unit_model.proofs.ItemChanges.{item_past}
 use Rattle.unit_model.proofs.Members.{member_counts, counted_member, counted_seat, counts_in_all}
 use Rattle.unit_model.proofs.PartLists.{taken_at_most_once}
 use Rattle.unit_model.proofs.SeatNotes.{seat_in_all, all_less}
@@ -22,7 +22,7 @@ pub armed_inside : (core : Core) (queue item : ℕ) → IsArmed core queue item 
 armed_inside core queue item armed =
     elim (cases_lt item (length (queue_of core queue).items)) [
       | inl inside ↦ inside
-      | inr past ↦ absurd (armed (ap (λ (i : Item). i.tag) (item_past (queue_of core queue).items item past)))
+      | inr past ↦ absurd (armed (ap (λ (i : Item). i.tag) (get_or_past (queue_of core queue).items item blank past)))
     ]
 
 -- a stream that is taken or cancelled was posted
