@@ -15,7 +15,7 @@ use std::alloc::{AllocError, Global};
 
 impl Core {
     /// The core of a valid shape as it begins: all chunks are free, one segment of each side is open, all items are in the
-    /// free lists in ascending order, and the next stream is 1.
+    /// free lists in ascending order, and the next stream is 1. It is sound.
     ///
     /// Fails for want of memory alone.
     #[tactic(auto, using(crate::proofs::HeldOpening::opened_holds_right))]

@@ -14,7 +14,7 @@ use crate::machine::{Core, Entry, Item, Note, Owner, RunFault, Step, StepFault, 
 use crate::streams::part_of;
 use std::alloc::AllocError;
 
-/// Does a step.
+/// Does a step. A sound core stays sound, whatever the answer.
 ///
 /// # Errors
 ///
@@ -44,7 +44,8 @@ pub fn step_core(core: &mut Core, step: &Step) -> Result<(), StepFault>
 
 /// Does the steps in order.
 ///
-/// It is Ok exactly where each step is enabled in its turn and memory doesn't run out.
+/// It is Ok exactly where each step is enabled in its turn and memory doesn't run out. A sound core stays sound, whatever
+/// the answer.
 ///
 /// # Errors
 ///
