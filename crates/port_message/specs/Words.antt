@@ -1,5 +1,5 @@
 -- The words in which an item carries its run of chunks and its part.
-use Rattle.std.specs.Prelude.{ℕ, ◌+◌, ◌*◌, ◌/◌, ◌%◌, ◌^◌, ◌==◌, ◌&&◌, nat_lt, nat_le, Bool, if◌then◌else◌, Option, Some, None}
+use Rattle.std.specs.Prelude.{ℕ, ◌+◌, ◌*◌, ◌/◌, ◌%◌, ◌^◌, ◌&&◌, nat_lt, nat_le, Bool, if◌then◌else◌, Option, Some, None}
 use Rattle.unit_model.specs.Runs.{chunks_for}
 use Rattle.unit_model.specs.Weights.{one_if}
 use Rattle.unit_model.specs.declared.runs.Run.{Run}
@@ -23,10 +23,3 @@ unpack_of word = if is_in_segment (numbers_of word) then Some (numbers_of word) 
 -- the part word: the part's number, and in the lowest bit whether it is the last
 abbrev pub part_word_of : ℕ → Bool → ℕ
 part_word_of part last = 2 * part + one_if last
-
--- the part's number in such a word, and whether it is the last
-abbrev pub part_number_of : ℕ → ℕ
-part_number_of word = word / 2
-
-abbrev pub is_last_of : ℕ → Bool
-is_last_of word = word % 2 == 1

@@ -1,7 +1,7 @@
 -- Sums after a list or one seat has changed, and what they say of their terms.
 use Rattle.std.proofs.Common.{◌≡◌, ◌≢◌, ℕ, zero, suc, ◌+◌, ◌-◌, ◌<◌, ◌≤◌, Bool, true, false, List, [], ◌∷◌, ◌++◌, length, get_or, set, take, drop, map, refl, sym, ap, ◌∙◌, arith, inl, inr, ◌⊎◌}
 use Rattle.std.specs.List.{remove, range_with_len}
-use Rattle.std.proofs.lemmas.Bool.{eq-eqb, ne_eqb, cases_eq, cases_lt}
+use Rattle.std.proofs.lemmas.Bool.{eq-eqb, ne_eqb, cases_eq, cases_lt, cases_Bool}
 use Rattle.unit_model.specs.Weights.{weigh, one_if, is_number, times, count_of, without_first, over_all, below}
 
 -- ---- a list that has changed
@@ -32,10 +32,6 @@ pub weigh-map : {X Y : Type 0} (f : Y → ℕ) (g : X → Y) (xs : List X) → w
 weigh-map f g [] = refl
 weigh-map f g (x ∷ xs) = omega (arith, weigh-map f g xs)
 
-test_cases : (b : Bool) → (b ≡ true) ⊎ (b ≡ false)
-test_cases true = inl refl
-test_cases false = inr refl
-
 left_of : {X : Type 0} (test : X → Bool) (x : X) (xs : List X) → test x ≡ false → 0 < count_of test (x ∷ xs) → 0 < count_of test xs
 left_of test x xs fails some = let none : one_if (test x) ≡ 0 = ap one_if fails in omega (arith, none, some)
 
@@ -43,7 +39,7 @@ left_of test x xs fails some = let none : one_if (test x) ≡ 0 = ap one_if fail
 pub weigh-without_first : {X : Type 0} (f : X → ℕ) (test : X → Bool) (w : ℕ) → ((x : X) → test x ≡ true → f x ≡ w) → (xs : List X) → 0 < count_of test xs → weigh f (without_first test xs) + w ≡ weigh f xs
 weigh-without_first f test w same [] some = absurd (omega arith)
 weigh-without_first f test w same (x ∷ xs) some =
-    elim (test_cases (test x)) [
+    elim (cases_Bool (test x)) [
       | inl passes ↦ rw passes (omega (arith, same x passes))
       | inr fails ↦ rw fails (omega (arith, weigh-without_first f test w same xs (left_of test x xs fails some)))
     ]

@@ -1,8 +1,10 @@
 //! The core as it begins.
 ghost use Rattle.std.specs.Prelude.{◌≡◌, ◌<◌, ◌≤◌, ◌+◌, ◌*◌, ◌^◌, ◌∷◌, ◌++◌, [], IfOk, OnOk, replicate};
 ghost use Rattle.unit_model.specs.Core.{blank, no_seat};
+ghost use Rattle.unit_model.specs.Holding.{IsHeldRight};
 ghost use Rattle.unit_model.specs.Opening.{first_entries, fresh_queue, opened_core};
 ghost use Rattle.unit_model.specs.Shapes.{IsValid};
+ghost use Rattle.unit_model.specs.Soundness.{IsSound};
 ghost use Rattle.unit_model.specs.declared.machine.Owner.TheVariants.{Free};
 
 use crate::conditions::BLANK;
@@ -13,12 +15,15 @@ use std::alloc::{AllocError, Global};
 
 impl Core {
     /// The core of a valid shape as it begins: all chunks are free, one segment of each side is open, all items are in the
-    /// free lists in ascending order, and the next stream is 1.
+    /// free lists in ascending order, and the next stream is 1. It is sound.
     ///
     /// Fails for want of memory alone.
+    #[tactic(auto, using(crate::proofs::HeldOpening::opened_holds_right))]
     pub fn open(alloc: Global, shape: &Shape) -> Result<Core, AllocError>
         requires { IsValid shape.now }
-        ensures { IfOk result (λ core. core ≡ opened_core shape.now) }
+        ensures opened { IfOk result (λ core. core ≡ opened_core shape.now) }
+        ensures held { IfOk result (λ core. IsHeldRight core) }
+        ensures sound { IfOk result (λ core. IsSound core) }
     {
         let chunks = 640 * (shape.out_segments as usize + shape.back_segments as usize);
         let queues = fresh_queues(alloc, shape)?;

@@ -3,7 +3,10 @@ ghost use Rattle.std.specs.Prelude.{◌≡◌, ◌<◌, ◌≤◌, ◌+◌, ◌^
 ghost use Rattle.unit_model.specs.Conditions.{first_unmet};
 ghost use Rattle.unit_model.specs.Core.{item_of};
 ghost use Rattle.unit_model.specs.Effects.{after_step, armed_note, settled_note, with_free, with_in_line, with_item, without_first_free, without_first_in_line};
+ghost use Rattle.unit_model.specs.Holding.{IsHeldRight};
 ghost use Rattle.unit_model.specs.Running.{AllEnabled, Enabled, IsFaultOf, after_steps};
+ghost use Rattle.unit_model.specs.Soundness.{IsSound};
+ghost use Rattle.unit_model.specs.StreamCounts.{StreamCounts};
 ghost use Rattle.unit_model.specs.declared.machine.Step.{Step};
 
 use crate::conditions::chunk_number;
@@ -11,7 +14,7 @@ use crate::machine::{Core, Entry, Item, Note, Owner, RunFault, Step, StepFault, 
 use crate::streams::part_of;
 use std::alloc::AllocError;
 
-/// Does a step.
+/// Does a step. A sound core stays sound, whatever the answer.
 ///
 /// # Errors
 ///
@@ -22,6 +25,9 @@ pub fn step_core(core: &mut Core, step: &Step) -> Result<(), StepFault>
     ensures done { OnOk result (core.new ≡ after_step core.old step.now) }
     ensures fault { IfErr result (λ fault. IsFaultOf (first_unmet core.old step.now) fault) }
     ensures kept { OnErr result (core.new ≡ core.old) }
+    ensures held { IsHeldRight core.old → IsHeldRight core.new }
+    ensures streams { StreamCounts core.old → StreamCounts core.new }
+    ensures sound { IsSound core.old → IsSound core.new }
 {
     if let Some(unmet) = core.first_unmet(step) {
         return Err(StepFault::NotEnabled {
@@ -38,7 +44,8 @@ pub fn step_core(core: &mut Core, step: &Step) -> Result<(), StepFault>
 
 /// Does the steps in order.
 ///
-/// It is Ok exactly where each step is enabled in its turn and memory doesn't run out.
+/// It is Ok exactly where each step is enabled in its turn and memory doesn't run out. A sound core stays sound, whatever
+/// the answer.
 ///
 /// # Errors
 ///
@@ -50,6 +57,9 @@ pub fn run_core(core: &mut Core, steps: &[Step]) -> Result<(), RunFault>
     ensures before { IfErr result (λ fault. AllEnabled core.old (take fault.at steps.now)) }
     ensures stopped { IfErr result (λ fault. core.new ≡ after_steps core.old (take fault.at steps.now)) }
     ensures cause { IfErr result (λ fault. (step : Step) → slice_get steps.now fault.at ≡ Some step → IsFaultOf (first_unmet core.new step) fault.fault) }
+    ensures held { IsHeldRight core.old → IsHeldRight core.new }
+    ensures streams { StreamCounts core.old → StreamCounts core.new }
+    ensures sound { IsSound core.old → IsSound core.new }
 {
     for (i, step) in steps.iter().enumerate() {
         if let Err(fault) = step_core(core, step) {
