@@ -3,3 +3,8 @@ pub mod Exchanges
 pub mod Rising
 pub mod Noting
 pub mod RingParts
+pub mod RingWords
+pub mod Sharing
+pub mod Stepping
+pub mod Starts
+pub mod Turning
