@@ -8,3 +8,4 @@ pub mod Sharing
 pub mod Stepping
 pub mod Starts
 pub mod Turning
+pub mod Holding

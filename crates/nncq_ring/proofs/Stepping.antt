@@ -20,9 +20,10 @@ use Rattle.nncq_ring.specs.Notes.{EntryNoted, Noted}
 use Rattle.nncq_ring.specs.RingWords.{ring_words}
 use Rattle.nncq_ring.specs.Views.{held_by, events_of, push_weight, pop_weight, pushes_of, pops_of, empty, after, without, together, given, taken}
 use Rattle.nncq_ring.specs.Rule.{RingHolds, line_weight, SeesTail, SeesHead, SeesEntry, Puts, Takes, Helps, ShowsFilled}
-use Rattle.nncq_ring.proofs.Exchanges.{tail_cases, pushed_tail, pushed_line, helped_tail, helped_line, popped_tail, popped_line}
+use Rattle.nncq_ring.proofs.Exchanges.{tail_at, tail_cases, pushed_tail, pushed_line, helped_tail, helped_line, popped_tail, popped_line}
 use Rattle.nncq_ring.proofs.Rising.{room_left}
-use Rattle.nncq_ring.proofs.Noting.{look_noted, may_help, may_take}
+use Rattle.nncq_ring.specs.Moments.{Meets, PutLast, TookFirst, WasEmpty}
+use Rattle.nncq_ring.proofs.Noting.{empty_seen, look_noted, may_help, may_take}
 use Rattle.nncq_ring.proofs.RingParts.{note_at, part_steps, part_pushes, part_helps, part_pops, part_splits, part_joins}
 use Rattle.nncq_ring.proofs.RingWords.{stays_later, sets_entry, sets_tail, sets_head}
 use Rattle.nncq_ring.proofs.Sharing.{owned_moves, held_small, moved_stays, moved_moves, emptied_stays, emptied_one}
@@ -77,16 +78,25 @@ module _ (key : ℕ × ℕ) (slots id : ℕ) (v : RingView) (carried : List (ℕ
   pub sees_head : After 16 now.head (SeesHead (step slots 16 0 0 none) (v, carried) now.head)
   sees_head = (after (SawHead now.head) v, keeps, tt, looked 16 (SawHead now.head) (omega arith) (λ g. refl) (λ g. refl), (refl, head_below, refl))
 
-  pub sees_entry : (place : ℕ) → After (48 + place % key.0) (now.entry (place % key.0)) (SeesEntry place (step slots (48 + place % key.0) 0 0 none) (v, carried) (now.entry (place % key.0)))
+  met : Meets key.0 v now
+  met = record { fine = holds.part.fine; noted = holds.part.noted id v at }
+
+  was_empty : (place : ℕ) → get_elem? v.log 0 ≡ mathlib.Core.Option.some (SawHead place) → now.entry (place % key.0) / key.0 + 1 ≡ place / key.0 → WasEmpty key.0 place v
+  was_empty place seen before =
+      let noted : place ≤ now.head = note_at key.0 now (events_of v) 0 (SawHead place) (at_longer v.log v.joined 0 (SawHead place) seen) (holds.part.noted id v at) in
+      let empty_now = empty_seen key.0 place now holds.part.fine noted before in
+      record { words = now; met = met; head = empty_now.0; line = empty_now.2 }
+
+  pub sees_entry : (place : ℕ) → After (48 + place % key.0) (now.entry (place % key.0)) (SeesEntry key.0 place (step slots (48 + place % key.0) 0 0 none) (v, carried) (now.entry (place % key.0)))
   sees_entry place =
       let found : ℕ = now.entry (place % key.0) in
-      (after (SawEntry place found) v, keeps, tt, looked (48 + place % key.0) (SawEntry place found) (look_noted key.0 place now holds.part.fine) (λ g. refl) (λ g. refl), (refl, refl))
+      (after (SawEntry place found) v, keeps, tt, looked (48 + place % key.0) (SawEntry place found) (look_noted key.0 place now holds.part.fine) (λ g. refl) (λ g. refl), (refl, refl, λ seen before. was_empty place seen before))
 
   -- ---- an entry exchange
 
   module _ (t x value second : ℕ) (fresh : t < 2 ^ 62) (mine : Holds held_by value v) (before : x / key.0 + 1 ≡ t / key.0) (seen : get_elem? v.log 1 ≡ mathlib.Core.Option.some (SawTail t)) (is_entry : second ≡ entry_of key.0 t value) where
     abbrev pub Put : ℕ → Type 0
-    Put new = After (48 + t % key.0) new (Puts t value (step slots (48 + t % key.0) x second none) (v, carried) (now.entry (t % key.0)))
+    Put new = After (48 + t % key.0) new (Puts key.0 t value (step slots (48 + t % key.0) x second none) (v, carried) (now.entry (t % key.0)))
 
     put : now.entry (t % key.0) ≡ x → Put second
     put found =
@@ -111,7 +121,7 @@ module _ (key : ℕ × ℕ) (slots id : ℕ) (v : RingView) (carried : List (ℕ
             moved = moved_moves pushes_of pops_of key.0 now w' s.views id v u at (λ g. omega (arith, line_is (λ e. g e.0 e.1))) holds.moved;
             emptied = emptied_stays pops_of key.1 now w' s.views id v u at sets.head (λ g. omega arith) holds.emptied;
           },
-          (refl, sym (ap (λ (b : Bool). cond b u (after (SawEntry t (now.entry (t % key.0))) v)) (eq-eqb (now.entry (t % key.0)) x found))),
+          (refl, sym (ap (λ (b : Bool). cond b u (after (SawEntry t (now.entry (t % key.0))) v)) (eq-eqb (now.entry (t % key.0)) x found)), λ won. record { before = now; after = w'; met = met; tail = (tail_at key.0 now t holds.part.fine noted there).0; sets = sets; line = line }),
         )
 
     missed : now.entry (t % key.0) ≢ x → Put (now.entry (t % key.0))
@@ -121,7 +131,7 @@ module _ (key : ℕ × ℕ) (slots id : ℕ) (v : RingView) (carried : List (ℕ
           keeps,
           tt,
           looked (48 + t % key.0) (SawEntry t found) (look_noted key.0 t now holds.part.fine) (λ g. refl) (λ g. refl),
-          (refl, sym (ap (λ (b : Bool). cond b (given t value v) (after (SawEntry t found) v)) (ne_eqb found x other))),
+          (refl, sym (ap (λ (b : Bool). cond b (given t value v) (after (SawEntry t found) v)) (ne_eqb found x other)), λ won. absurd (other won)),
         )
 
     pub puts : Put (either (eqb (now.entry (t % key.0)) x) second (now.entry (t % key.0)))
@@ -131,7 +141,7 @@ module _ (key : ℕ × ℕ) (slots id : ℕ) (v : RingView) (carried : List (ℕ
 
   module _ (h x : ℕ) (full : x / key.0 ≡ h / key.0) (seen : get_elem? v.log 0 ≡ mathlib.Core.Option.some (SawEntry h x)) where
     abbrev pub Take : ℕ → Type 0
-    Take new = After 16 new (Takes (x % key.0) (step slots 16 h (h + 1) none) (v, carried) now.head)
+    Take new = After 16 new (Takes key.0 (x % key.0) (step slots 16 h (h + 1) none) (v, carried) now.head)
 
     take_one : now.head ≡ h → Take (h + 1)
     take_one found =
@@ -155,7 +165,7 @@ module _ (key : ℕ × ℕ) (slots id : ℕ) (v : RingView) (carried : List (ℕ
             moved = moved_moves pushes_of pops_of key.0 now w' s.views id v u at (λ g. omega (arith, line_is (λ e. g e.0 e.1))) holds.moved;
             emptied = emptied_one pops_of key.1 now w' s.views id v u at value sets.head (λ g. ap (λ (p : ℕ). g p value + pops_of g v) (sym found)) holds.emptied;
           },
-          (refl, sym (ap (λ (b : Bool). cond b u (after (SawHead now.head) v)) (eq-eqb now.head h found))),
+          (refl, sym (ap (λ (b : Bool). cond b u (after (SawHead now.head) v)) (eq-eqb now.head h found)), λ won. record { before = now; after = w'; met = met; head = found; sets = set_one; line = line }),
         )
 
     take_none : now.head ≢ h → Take now.head
@@ -164,7 +174,7 @@ module _ (key : ℕ × ℕ) (slots id : ℕ) (v : RingView) (carried : List (ℕ
       keeps,
       tt,
       looked 16 (SawHead now.head) (omega arith) (λ g. refl) (λ g. refl),
-      (refl, sym (ap (λ (b : Bool). cond b (taken h (x % key.0) v) (after (SawHead now.head) v)) (ne_eqb now.head h other))),
+      (refl, sym (ap (λ (b : Bool). cond b (taken h (x % key.0) v) (after (SawHead now.head) v)) (ne_eqb now.head h other)), λ won. absurd (other won)),
     )
 
     pub takes : Take (either (eqb now.head h) (h + 1) now.head)

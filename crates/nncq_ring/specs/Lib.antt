@@ -4,6 +4,7 @@ pub mod Later
 pub mod Notes
 pub mod RingWords
 pub mod Views
+pub mod Moments
 pub mod Rule
 pub mod Seats
 pub mod Turns

@@ -12,6 +12,7 @@ use Rattle.nncq_ring.specs.declared.view.RingView.{RingView}
 use Rattle.nncq_ring.specs.Words.{Words, logical_tail, line_of}
 use Rattle.nncq_ring.specs.Notes.{RingPart}
 use Rattle.nncq_ring.specs.RingWords.{ring_words}
+use Rattle.nncq_ring.specs.Moments.{PutLast, TookFirst, WasEmpty}
 use Rattle.nncq_ring.specs.Views.{held_by, events_of, pushes_of, pops_of, after, given, taken}
 
 -- what the values in the line weigh
@@ -45,17 +46,17 @@ SeesTail st m found m' = (m'.1 ≡ m.1) × (found ≤ 2 ^ 62) × (m'.0 ≡ after
 abbrev pub SeesHead : {S : Type 0} → Step S → Me S RingView → ℕ → Me S RingView → Type 0
 SeesHead st m found m' = (m'.1 ≡ m.1) × (found ≤ 2 ^ 62) × (m'.0 ≡ after (SawHead found) m.0)
 
--- the entry at the place was loaded
-abbrev pub SeesEntry : ℕ → {S : Type 0} → Step S → Me S RingView → ℕ → Me S RingView → Type 0
-SeesEntry place st m found m' = (m'.1 ≡ m.1) × (m'.0 ≡ after (SawEntry place found) m.0)
+-- The entry at the place was loaded. Where the head was seen to be this place, the cycle before shows that the line is empty.
+abbrev pub SeesEntry : ℕ → ℕ → {S : Type 0} → Step S → Me S RingView → ℕ → Me S RingView → Type 0
+SeesEntry n place st m found m' = (m'.1 ≡ m.1) × (m'.0 ≡ after (SawEntry place found) m.0) × (get_elem? m.0.log 0 ≡ some (SawHead place) → found / n + 1 ≡ place / n → WasEmpty n place m.0)
 
 -- the value was put at the place, or the exchange found another entry there
-abbrev pub Puts : ℕ → ℕ → {S : Type 0} → Step S → Me S RingView → ℕ → Me S RingView → Type 0
-Puts place value st m found m' = (m'.1 ≡ m.1) × (m'.0 ≡ cond (found == st.first) (given place value m.0) (after (SawEntry place found) m.0))
+abbrev pub Puts : ℕ → ℕ → ℕ → {S : Type 0} → Step S → Me S RingView → ℕ → Me S RingView → Type 0
+Puts n place value st m found m' = (m'.1 ≡ m.1) × (m'.0 ≡ cond (found == st.first) (given place value m.0) (after (SawEntry place found) m.0)) × (found ≡ st.first → PutLast n place value m.0)
 
 -- the value was taken at the place that the head was, or the exchange found another head
-abbrev pub Takes : ℕ → {S : Type 0} → Step S → Me S RingView → ℕ → Me S RingView → Type 0
-Takes value st m found m' = (m'.1 ≡ m.1) × (m'.0 ≡ cond (found == st.first) (taken st.first value m.0) (after (SawHead found) m.0))
+abbrev pub Takes : ℕ → ℕ → {S : Type 0} → Step S → Me S RingView → ℕ → Me S RingView → Type 0
+Takes n value st m found m' = (m'.1 ≡ m.1) × (m'.0 ≡ cond (found == st.first) (taken st.first value m.0) (after (SawHead found) m.0)) × (found ≡ st.first → TookFirst n st.first value m.0)
 
 -- the tail is past the place, by this exchange or by another
 abbrev pub IsPast : ℕ → RingView → RingView → Type 0

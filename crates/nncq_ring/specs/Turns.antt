@@ -4,16 +4,18 @@ use Rattle.nncq_ring.specs.declared.view.RingEvent.{RingEvent}
 use Rattle.nncq_ring.specs.declared.view.RingEvent.TheVariants.{SawTail, SawHead, SawEntry, Pushed, Popped}
 use Rattle.nncq_ring.specs.declared.view.RingView.{RingView}
 use Rattle.nncq_ring.specs.Views.{after, given, taken, seen_tail, seen_head}
+use Rattle.nncq_ring.specs.Moments.{PutLast, TookFirst, WasEmpty}
 use Rattle.nncq_ring.specs.Rule.{IsPast}
 
 -- ---- a push
 
--- Done: the tail was below 2^62, its slot had the cycle before, and the exchange put the value there. Then the tail is past the
--- place.
+-- Done: the tail was below 2^62, its slot had the cycle before, and the exchange put the value last in the line. Then the tail
+-- is past the place.
 pub record IsDone (n value : ℕ) (v v' : RingView) (place : ℕ) : Type 0 where
   pub fresh : place < 2 ^ 62
   pub entry : ℕ
   pub before : entry / n + 1 ≡ place / n
+  pub last : PutLast n place value (seen_tail place entry v)
   pub told : IsPast place (given place value (seen_tail place entry v)) v'
 
 -- Lost: the slot was filled already, and then the tail is past the place; or the slot has another cycle, since the tail that was
@@ -31,16 +33,18 @@ pub record IsWorn (v v' : RingView) (place : ℕ) : Type 0 where
 
 -- ---- a pop
 
--- Got: the slot at the head had the head's cycle, and the exchange took its value.
+-- Got: the slot at the head had the head's cycle, and the exchange took the first of the line.
 pub record IsGot (n : ℕ) (v v' : RingView) (place value : ℕ) : Type 0 where
   pub entry : ℕ
   pub full : entry / n ≡ place / n
   pub carried : value ≡ entry % n
+  pub first : TookFirst n place value (seen_head place entry v)
   pub told : v' ≡ taken place value (seen_head place entry v)
 
--- Empty: the slot at the head had the cycle before.
+-- Empty: the slot at the head had the cycle before, so the line was empty at that look.
 pub record IsEmpty (n : ℕ) (v v' : RingView) (place entry : ℕ) : Type 0 where
   pub before : entry / n + 1 ≡ place / n
+  pub was : WasEmpty n place (after (SawHead place) v)
   pub told : v' ≡ seen_head place entry v
 
 -- Lost: the slot has another cycle, since the head that was read is too old; or the exchange found another head.

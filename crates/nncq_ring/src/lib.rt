@@ -4,6 +4,7 @@
 //! with more words in it can be ruled by the same parts.
 #![tactic(auto)]
 
+mod history;
 mod laws;
 mod opening;
 mod plays;
@@ -14,6 +15,9 @@ mod turns;
 mod view;
 mod waiting;
 
+pub use history::{
+    each_number_is_in_one_place, places_are_used_in_order, what_was_put_is_taken_or_stands,
+};
 pub use laws::{
     a_look_is_noted, a_ring_starts_empty, empty_is_seen, full_is_seen, head_may_be_taken,
     notes_stay_true, parts_step, tail_may_be_helped, there_is_room, won_entry_exchange,

@@ -17,14 +17,19 @@ impl<S> TableRule<S, RingView, (u32, u64)> for RingRule {
     ghost first = { λ key. whole key.0 };
 }
 
-/// The place and the value that a step is about, where neither its word nor its operands say them. A call picks them.
+/// The ring's size, and the place and the value that a step is about, where neither its word nor its operands say them. A call
+/// picks them.
 pub trait Aim {
+    ghost size: { ℕ };
+
     ghost place: { ℕ };
 
     ghost value: { ℕ };
 }
 
 impl Aim for Brand {
+    ghost size = { 0 };
+
     ghost place = { 0 };
 
     ghost value = { 0 };
@@ -53,7 +58,7 @@ pub struct SeeingEntry<J> {
 impl<S, J: Aim> Play<S, RingView> for SeeingEntry<J> {
     ghost use Rattle.nncq_ring.specs.Rule.{SeesEntry};
 
-    ghost then = { SeesEntry J.place };
+    ghost then = { SeesEntry J.size J.place };
 }
 
 pub struct Putting<J> {
@@ -63,7 +68,7 @@ pub struct Putting<J> {
 impl<S, J: Aim> Play<S, RingView> for Putting<J> {
     ghost use Rattle.nncq_ring.specs.Rule.{Puts};
 
-    ghost then = { Puts J.place J.value };
+    ghost then = { Puts J.size J.place J.value };
 }
 
 pub struct Taking<J> {
@@ -73,7 +78,7 @@ pub struct Taking<J> {
 impl<S, J: Aim> Play<S, RingView> for Taking<J> {
     ghost use Rattle.nncq_ring.specs.Rule.{Takes};
 
-    ghost then = { Takes J.value };
+    ghost then = { Takes J.size J.value };
 }
 
 pub struct Helping;

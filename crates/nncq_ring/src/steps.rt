@@ -10,6 +10,7 @@ impl Ring {
     ghost use mathlib.Core.Option.{some};
     ghost use lib.ListN.{get_elem?};
     ghost use Rattle.unit_model.specs.Sharing.{Holds};
+    ghost use Rattle.nncq_ring.specs.Moments.{PutLast, TookFirst, WasEmpty};
     ghost use Rattle.nncq_ring.specs.Rule.{IsPast, ShowsFilled};
     ghost use Rattle.nncq_ring.specs.Seats.{BelongsTo, knows};
     ghost use Rattle.nncq_ring.specs.Views.{after, given, held_by, taken};
@@ -45,9 +46,10 @@ impl Ring {
 
     pub(crate) fn see_entry<J: Aim>(&self, seat: &mut RingSeat, place: u64) -> u64
         requires own { BelongsTo seat.old self.now }
-        requires aim { J.place ≡ place }
+        requires aim { (J.size ≡ self.now.size) × (J.place ≡ place) }
         ensures own { BelongsTo seat.new self.now }
         ensures view { knows seat.new ≡ after (SawEntry place result) (knows seat.old) }
+        ensures empty { get_elem? (knows seat.old).log 0 ≡ some (SawHead place) → result / self.now.size + 1 ≡ place / self.now.size → WasEmpty self.now.size place (knows seat.old) }
     {
         let word = self.word_of(place);
         let table = &self.table;
@@ -58,13 +60,14 @@ impl Ring {
     // Exchanges the entry for that of the place and the value. The result is what was found.
     pub(crate) fn put<J: Aim>(&self, seat: &mut RingSeat, place: u64, entry: u64, v: u32) -> u64
         requires own { BelongsTo seat.old self.now }
-        requires aim { (J.place ≡ place) × (J.value ≡ v) }
+        requires aim { (J.size ≡ self.now.size) × (J.place ≡ place) × (J.value ≡ v) }
         requires fresh { place < 2 ^ 62 }
         requires held { Holds held_by v (knows seat.old) }
         requires before { entry / self.now.size + 1 ≡ place / self.now.size }
         requires seen { get_elem? (knows seat.old).log 1 ≡ some (SawTail place) }
         ensures own { BelongsTo seat.new self.now }
         ensures view { knows seat.new ≡ cond (result == entry) (given place v (knows seat.old)) (after (SawEntry place result) (knows seat.old)) }
+        ensures last { result ≡ entry → PutLast self.now.size place v (knows seat.old) }
     {
         let word = self.word_of(place);
         let turn = place - place % self.size as u64;
@@ -76,12 +79,13 @@ impl Ring {
     // Exchanges the head for the next place. The result is what was found.
     pub(crate) fn take<J: Aim>(&self, seat: &mut RingSeat, place: u64, entry: u64) -> u64
         requires own { BelongsTo seat.old self.now }
-        requires aim { J.value ≡ entry % self.now.size }
+        requires aim { (J.size ≡ self.now.size) × (J.value ≡ entry % self.now.size) }
         requires most { place ≤ 2 ^ 62 }
         requires full { entry / self.now.size ≡ place / self.now.size }
         requires seen { get_elem? (knows seat.old).log 0 ≡ some (SawEntry place entry) }
         ensures own { BelongsTo seat.new self.now }
         ensures view { knows seat.new ≡ cond (result == place) (taken place (entry % self.now.size) (knows seat.old)) (after (SawHead result) (knows seat.old)) }
+        ensures first { result ≡ place → TookFirst self.now.size place (entry % self.now.size) (knows seat.old) }
     {
         let table = &self.table;
         let shared = &table.shared;

@@ -13,9 +13,10 @@ compare_exchange-requires g c =
     let h : ℕ = c.args.place in
     let there : 16 < table.table_id.words = omega (arith, sized.1, sized.2) in
     let full : c.args.entry / table.key.0 ≡ h / table.key.0 = subst (λ (m : ℕ). c.args.entry / m ≡ h / m) (sym sized.0) c.requires.full in
-    let value : c.args.entry % table.key.0 ≡ g.J.Aim.value = ap (λ (m : ℕ). c.args.entry % m) sized.0 ∙ sym c.requires.aim in (
+    let value : c.args.entry % table.key.0 ≡ g.J.Aim.value = ap (λ (m : ℕ). c.args.entry % m) sized.0 ∙ sym c.requires.aim.1 in
+    let Steps : ℕ → ℕ → Type 0 = λ n x. Allows (RingHolds table.key) table.table_id.slots seat.id seat.me 16 (λ m. either (m == h) (h + 1) m) (Takes n x (step table.table_id.slots 16 h (h + 1) mathlib.Core.Option.none) seat.me) in
+    let here : Steps table.key.0 (c.args.entry % table.key.0) = λ s holds homes at fits. takes table.key table.table_id.slots seat.id seat.me.0 seat.me.1 s holds at h c.args.entry full c.requires.seen in (
       c.requires.own,
       there,
-      subst (λ (x : ℕ). Allows (RingHolds table.key) table.table_id.slots seat.id seat.me 16 (λ n. either (n == h) (h + 1) n) (Takes x (step table.table_id.slots 16 h (h + 1) mathlib.Core.Option.none) seat.me)) value
-          (λ s holds homes at fits. takes table.key table.table_id.slots seat.id seat.me.0 seat.me.1 s holds at h c.args.entry full c.requires.seen),
+      subst (λ (n : ℕ). Steps n g.J.Aim.value) (sized.0 ∙ sym c.requires.aim.0) (subst (Steps table.key.0) value here),
     )
