@@ -1,10 +1,11 @@
 -- What a seat still holds after a call, for callers who push several numbers.
-use Rattle.std.proofs.Common.{ℕ, ◌+◌, ◌≡◌, ◌≢◌, ◌≤◌, ◌<◌, [], ◌∷◌, sym, ap, ◌∙◌, subst, arith}
+use Rattle.std.proofs.Common.{ℕ, ◌≡◌, ◌≢◌, ◌<◌, ◌==◌, Bool, cond, List, [], ◌∷◌, refl, sym, ap, ◌∙◌, subst, arith}
+use Rattle.std.proofs.lemmas.Bool.{eq-eqb}
 use Rattle.unit_model.specs.Sharing.{Holds}
 use Rattle.unit_model.specs.Weights.{weigh, is_number, without_first}
 use Rattle.unit_model.proofs.Weights.{is_number_same, is_number_other, times_in_range}
 use Rattle.nncq_ring.specs.declared.view.RingView.{RingView}
-use Rattle.nncq_ring.specs.Views.{held_by, whole, without, holding, given, seen_tail}
+use Rattle.nncq_ring.specs.Views.{held_by, whole, without, holding}
 use Rattle.nncq_ring.specs.Turns.{IsDone, IsWorn, IsGot, IsEmpty, HasLooked, AfterLooks}
 use Rattle.nncq_ring.proofs.Stepping.{without_weighs}
 
@@ -21,16 +22,18 @@ pub holding_holds : (value i : ℕ) (v : RingView) → Holds held_by i v → Hol
 holding_holds value i v held = omega (arith, held)
 
 pub looked_holds : (i : ℕ) (v u : RingView) → HasLooked v u → Holds held_by i v → Holds held_by i u
-looked_holds i v u looked held = subst (λ (xs : _). 0 < weigh (is_number i) xs) (sym looked.held) held
+looked_holds i v u looked held = subst (λ (xs : List ℕ). 0 < weigh (is_number i) xs) (sym looked.held) held
 
--- the view after a call, which looked and then did this
-still : (i : ℕ) (u v' : RingView) → v' ≡ u → Holds held_by i u → Holds held_by i v'
-still i u v' told held = subst (Holds held_by i) (sym told) held
+-- after a turn
+pub done_turn_holds : (n value place i : ℕ) (v v' : RingView) → IsDone n value v v' place → Holds held_by value v → i ≢ value → Holds held_by i v → Holds held_by i v'
+done_turn_holds n value place i v v' done mine other held = subst (Holds held_by i) (sym done.told.2) (without_holds value i v mine other held)
 
+pub got_turn_holds : (n place value : ℕ) (v v' : RingView) → IsGot n v v' place value → Holds held_by value v'
+got_turn_holds n place value v v' got = subst (Holds held_by value) (sym got.told) (holding_same value v)
+
+-- after turns that were repeated
 pub done_holds : (n value place i : ℕ) (v v' : RingView) → AfterLooks v (λ u. IsDone n value u v' place) → Holds held_by value v → i ≢ value → Holds held_by i v → Holds held_by i v'
-done_holds n value place i v v' ends mine other held =
-    let u : RingView = ends.0 in
-    subst (Holds held_by i) (sym ends.2.told.2) (without_holds value i u (looked_holds value v u ends.1 mine) other (looked_holds i v u ends.1 held))
+done_holds n value place i v v' ends mine other held = done_turn_holds n value place i ends.0 v' ends.2 (looked_holds value v ends.0 ends.1 mine) other (looked_holds i v ends.0 ends.1 held)
 
 pub worn_holds : (place i : ℕ) (v v' : RingView) → AfterLooks v (λ u. IsWorn u v' place) → Holds held_by i v → Holds held_by i v'
 worn_holds place i v v' ends held = subst (Holds held_by i) (sym ends.2.told) (looked_holds i v ends.0 ends.1 held)
@@ -45,5 +48,5 @@ empty_holds n place entry i v v' ends held = subst (Holds held_by i) (sym ends.2
 pub done_alone : (n value place : ℕ) (v v' : RingView) → AfterLooks v (λ u. IsDone n value u v' place) → v.held ≡ value ∷ [] → v'.held ≡ []
 done_alone n value place v v' ends alone =
     ap (λ (u : RingView). u.held) ends.2.told.2
-    ∙ ap (without_first (λ x. Rattle.std.proofs.Common.eqb x value)) (ends.1.held ∙ alone)
-    ∙ ap (λ (b : _). Rattle.std.proofs.Common.cond b [] (value ∷ [])) (Rattle.std.proofs.lemmas.Bool.eq-eqb value value Rattle.std.proofs.Common.refl)
+    ∙ ap (without_first (λ x. x == value)) (ends.1.held ∙ alone)
+    ∙ ap (λ (b : Bool). cond b [] (value ∷ [])) (eq-eqb value value refl)

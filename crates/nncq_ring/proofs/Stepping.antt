@@ -22,7 +22,7 @@ use Rattle.nncq_ring.specs.Views.{held_by, events_of, push_weight, pop_weight, p
 use Rattle.nncq_ring.specs.Rule.{RingHolds, line_weight, SeesTail, SeesHead, SeesEntry, Puts, Takes, Helps, ShowsFilled}
 use Rattle.nncq_ring.proofs.Exchanges.{tail_at, tail_cases, pushed_tail, pushed_line, helped_tail, helped_line, popped_tail, popped_line}
 use Rattle.nncq_ring.proofs.Rising.{room_left}
-use Rattle.nncq_ring.specs.Moments.{Meets, PutLast, TookFirst, WasEmpty}
+use Rattle.nncq_ring.specs.Moments.{Meets, WasEmpty}
 use Rattle.nncq_ring.proofs.Noting.{empty_seen, look_noted, may_help, may_take}
 use Rattle.nncq_ring.proofs.RingParts.{note_at, part_steps, part_pushes, part_helps, part_pops, part_splits, part_joins}
 use Rattle.nncq_ring.proofs.RingWords.{stays_later, sets_entry, sets_tail, sets_head}

@@ -28,3 +28,6 @@ pub use seat::RingSeat;
 pub use turns::{PopTurn, PushTurn};
 pub use view::{RingEvent, RingView};
 pub use waiting::{PopEnd, PushEnd};
+
+#[cfg(test)]
+mod tests;
