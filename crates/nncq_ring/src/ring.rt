@@ -19,13 +19,15 @@ pub struct Ring {
 
 impl Ring {
     ghost use Rattle.unit_model.specs.Sharing.{Holds};
-    ghost use Rattle.nncq_ring.specs.Seats.{BelongsTo, knows};
+    ghost use Rattle.nncq_ring.specs.Seats.{BelongsTo, knows, start_of};
     ghost use Rattle.nncq_ring.specs.Views.{empty, held_by, holding, just, together, whole, without};
 
     /// An empty ring whose head and tail are the start, and a seat that holds every number below the size.
+    ///
+    /// Fails for want of memory alone.
     pub fn open(alloc: Global, size: u32, start: u64) -> Result<(Ring, RingSeat), AllocError>
         requires { (1 ≤ size) × (size ≤ 16384) × (size ≤ start) × (start < 2 ^ 62) }
-        ensures { IfOk result (λ r. (r.0.size ≡ size) × (r.0.table.shared.key.1 ≡ start) × BelongsTo r.1 r.0 × (knows r.1 ≡ whole size)) }
+        ensures { IfOk result (λ r. (r.0.size ≡ size) × (start_of r.0 ≡ start) × BelongsTo r.1 r.0 × (knows r.1 ≡ whole size)) }
     {
         let words = first_words(alloc, size, start)?;
         let (table, seat) = Table::of_words(alloc, words.as_slice(), &(size, start))?;
