@@ -3,3 +3,9 @@ pub mod Exchanges
 pub mod Rising
 pub mod Noting
 pub mod RingParts
+pub mod RingWords
+pub mod Sharing
+pub mod Stepping
+pub mod Starts
+pub mod Turning
+pub mod Holding

@@ -2,3 +2,9 @@ pub mod Words
 pub mod LineLaws
 pub mod Later
 pub mod Notes
+pub mod RingWords
+pub mod Views
+pub mod Moments
+pub mod Rule
+pub mod Seats
+pub mod Turns

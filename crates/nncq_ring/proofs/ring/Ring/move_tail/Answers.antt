@@ -1,0 +1,13 @@
+use Rattle.std.proofs.Common.{ℕ, ◌<◌, sym, subst, arith}
+use Rattle.nncq_ring.specs.Rule.{ShowsFilled}
+use Rattle.nncq_ring.proofs.Stepping.{helps}
+use Rattle.nncq_ring.proofs.ring.Ring.move_tail.Goals as goal
+
+pub compare_exchange-requires : goal.compare_exchange-requires
+compare_exchange-requires c =
+    let table = c.args.self.now.table.shared in
+    let seat = c.args.seat.now.seat in
+    let sized = c.args.self.now.sized in
+    let there : 32 < table.table_id.words = omega (arith, sized.1, sized.2) in
+    let shown : ShowsFilled table.key.0 c.args.place seat.me.0.log = subst (λ (m : ℕ). ShowsFilled m c.args.place seat.me.0.log) (sym sized.0) c.requires.shown in
+    (c.requires.own, there, λ s holds homes at fits. helps table.key table.table_id.slots seat.id seat.me.0 seat.me.1 s holds at c.args.place shown)

@@ -1,0 +1,40 @@
+//! The words of a ring that was just made.
+ghost use Rattle.std.specs.Prelude.{◌≡◌, ◌≤◌, ◌<◌, ◌+◌, ◌*◌, ◌/◌, ◌%◌, ℕ, length, IfOk};
+ghost use Rattle.nncq_ring.specs.RingWords.{Fresh};
+
+use std::alloc::{AllocError, Global};
+
+// Indexes of words in the table. Word 0 is cold: splits and joins load it. The head, the tail and the first entry lie 128 bytes
+// apart, so that they share no cache line.
+pub const HEAD: usize = 16;
+
+pub const TAIL: usize = 32;
+
+pub const ENTRIES: usize = 48;
+
+// The entry of value 0 at the last place before the start that has this slot.
+fn first_entry(size: u64, start: u64, slot: u64) -> u64
+    requires { (slot < size) × (size ≤ start) }
+    ensures { (place : ℕ) → place < start → start ≤ place + size → place % size ≡ slot → result ≡ place / size * size }
+{
+    let turn = start - start % size;
+    if slot < start % size {
+        turn
+    } else {
+        turn - size
+    }
+}
+
+/// The words of an empty ring.
+pub fn first_words(alloc: Global, size: u32, start: u64) -> Result<Vec<u64>, AllocError>
+    requires { (1 ≤ size) × (size ≤ 16384) × (size ≤ start) }
+    ensures { IfOk result (λ words. (length words.items ≡ size + 48) × Fresh size start 16 words.items) }
+{
+    let mut words = vec![in alloc; 0u64; ENTRIES]?;
+    words[HEAD] = start;
+    words[TAIL] = start;
+    for slot in 0..size {
+        words.push(first_entry(size as u64, start, slot as u64))?;
+    }
+    Ok(words)
+}
