@@ -1,5 +1,12 @@
 //! Checks a trace of steps: whether each step was enabled in its turn, trusting nothing of the trace's maker.
 #![tactic(auto)]
 
+mod conditions;
+mod effects;
+mod frame;
+mod lane;
 mod line;
+mod machine;
 mod number;
+mod steps;
+mod streams;
