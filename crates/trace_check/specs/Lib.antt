@@ -1,4 +1,5 @@
 pub mod Lines
 pub mod Numbers
 pub mod Owners
+pub mod Shows
 pub mod Streams

@@ -22,6 +22,12 @@ drawn_by seat stream = known (λ s. s.engine == seat) stream
 abbrev pub posted_by : ℕ → Option Stream → Bool
 posted_by seat stream = known (λ s. s.engine == seat && s.posted) stream
 
+abbrev pub cancelled_by : ℕ → Option Stream → Bool
+cancelled_by seat stream = known (λ s. s.engine == seat && s.cancelled) stream
+
+abbrev pub abandoned_by : ℕ → Option Stream → Bool
+abandoned_by seat stream = known (λ s. s.engine == seat && s.abandoned) stream
+
 abbrev pub taken_by : ℕ → Option Stream → Bool
 taken_by seat stream = known (λ s. nat_lt seat 8 && get_or s.takers seat false) stream
 
@@ -33,7 +39,7 @@ sent_of (Some stream) = stream.sent
 
 abbrev pub may_post_known : Core → Option Stream → ℕ → ℕ → ℕ → Option Unmet
 may_post_known core stream seat queue item =
-    unless (drawn_by seat stream && (not (known (λ s. s.posted) stream) && (item_of core queue item).part == seat)) 11 1 0
+    unless (drawn_by seat stream && (not (posted_by seat stream) && (item_of core queue item).part == seat)) 11 1 0
 
 abbrev pub may_send_known : Core → Option Stream → ℕ → ℕ → ℕ → ℕ → Option Unmet
 may_send_known core stream seat queue item number =
@@ -60,7 +66,7 @@ may_settle_known core stream seat queue item number =
 abbrev pub may_abandon_known : Option Stream → ℕ → Option Unmet
 may_abandon_known stream seat =
     let is_posted = posted_by seat stream && known (λ s. s.taken) stream in
-    let ended = known (λ s. s.cancelled) stream || known (λ s. s.abandoned) stream in
+    let ended = cancelled_by seat stream || abandoned_by seat stream in
     unless (is_posted && not (ended || known (λ s. s.received_last) stream)) 11 1 0
 
 -- the conditions of a step, given a core without its seats' lists and what is kept of each stream

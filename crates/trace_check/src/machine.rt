@@ -7,7 +7,7 @@ ghost use Rattle.unit_model.specs.Conditions.{conditions_of, first_unmet};
 
 use crate::conditions::{first_of, unless};
 use crate::frame::Frame;
-use crate::streams::{Stream, drawn_by, is_abandoned, is_cancelled, is_closed, is_last_sent, is_posted, is_received, is_taken, posted_by, sent_of, taken_by};
+use crate::streams::{Stream, abandoned_by, cancelled_by, drawn_by, is_closed, is_last_sent, is_received, is_taken, posted_by, sent_of, taken_by};
 use std::alloc::{AllocError, Global};
 use std::collections::BTreeMap;
 use unit_model::{Shape, Step, Unmet};
@@ -34,7 +34,7 @@ impl Machine {
         ensures { result ≡ may_post_known self.now.frame (get nat_cmp self.now.streams stream) seat queue item }
     {
         let known = self.stream(stream);
-        let is_new = drawn_by(seat, &known) && !is_posted(&known);
+        let is_new = drawn_by(seat, &known) && !posted_by(seat, &known);
         let is_own = self.frame.item_of(queue, item).part == seat as u64;
         unless(is_new && is_own, 11, 1, 0)
     }
@@ -85,7 +85,7 @@ impl Machine {
     {
         let known = self.stream(stream);
         let is_posted = posted_by(seat, &known) && is_taken(&known);
-        let ended = is_cancelled(&known) || is_abandoned(&known);
+        let ended = cancelled_by(seat, &known) || abandoned_by(seat, &known);
         unless(is_posted && !(ended || is_received(&known)), 11, 1, 0)
     }
 }

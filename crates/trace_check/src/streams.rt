@@ -1,6 +1,6 @@
 //! What is kept of each stream, in place of what each seat has done.
 ghost use Rattle.std.specs.Prelude.{◌≡◌, ◌+◌, ◌<◌, ◌^◌, ◌==◌, ◌&&◌, ◌||◌, Bool, get_or, set, true};
-ghost use Rattle.trace_check.specs.Streams.{abandoned_stream, armed_stream, drawn_by, drawn_stream, known, posted_by, sent_of, settled_stream, taken_by};
+ghost use Rattle.trace_check.specs.Streams.{abandoned_by, abandoned_stream, armed_stream, cancelled_by, drawn_by, drawn_stream, known, posted_by, sent_of, settled_stream, taken_by};
 
 use unit_model::Item;
 
@@ -47,15 +47,6 @@ pub(crate) fn posted_by(seat: u32, stream: &Option<Stream>) -> bool
     }
 }
 
-pub(crate) fn is_posted(stream: &Option<Stream>) -> bool
-    ensures { result ≡ known (λ s. s.posted) stream.now }
-{
-    match stream {
-        Some(stream) => stream.posted,
-        None => false,
-    }
-}
-
 pub(crate) fn taken_by(seat: u32, stream: &Option<Stream>) -> bool
     ensures { result ≡ taken_by seat stream.now }
 {
@@ -74,20 +65,20 @@ pub(crate) fn is_taken(stream: &Option<Stream>) -> bool
     }
 }
 
-pub(crate) fn is_cancelled(stream: &Option<Stream>) -> bool
-    ensures { result ≡ known (λ s. s.cancelled) stream.now }
+pub(crate) fn cancelled_by(seat: u32, stream: &Option<Stream>) -> bool
+    ensures { result ≡ cancelled_by seat stream.now }
 {
     match stream {
-        Some(stream) => stream.cancelled,
+        Some(stream) => stream.engine == seat && stream.cancelled,
         None => false,
     }
 }
 
-pub(crate) fn is_abandoned(stream: &Option<Stream>) -> bool
-    ensures { result ≡ known (λ s. s.abandoned) stream.now }
+pub(crate) fn abandoned_by(seat: u32, stream: &Option<Stream>) -> bool
+    ensures { result ≡ abandoned_by seat stream.now }
 {
     match stream {
-        Some(stream) => stream.abandoned,
+        Some(stream) => stream.engine == seat && stream.abandoned,
         None => false,
     }
 }
