@@ -29,6 +29,7 @@ pub record Agrees (seats : List SeatLists) (at : ℕ → Option Stream) : Type 0
   pub cancelled : (k s : ℕ) → has_stream s (lists_at seats k).cancelled ≡ cancelled_by k (at s)
   pub abandoned : (k s : ℕ) → has_stream s (lists_at seats k).abandoned ≡ abandoned_by k (at s)
   pub received : (k s : ℕ) → drawn_by k (at s) ≡ true → list_any (is_last_of s) (lists_at seats k).received ≡ known (λ r. r.received_last) (at s)
+  pub unreceived : (k s : ℕ) → at s ≡ None → list_any (is_last_of s) (lists_at seats k).received ≡ false
   pub takers : (k s : ℕ) → has_stream s (lists_at seats k).taken ≡ taken_by k (at s)
   pub eight : (s : ℕ) (r : Stream) → at s ≡ Some r → length r.takers ≡ 8
   pub taken : (s : ℕ) → list_any (λ lists. has_stream s lists.taken) seats ≡ known (λ r. r.taken) (at s)

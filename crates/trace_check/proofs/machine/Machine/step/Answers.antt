@@ -4,6 +4,7 @@ use Rattle.std.specs.Ordering.{nat_cmp}
 use Rattle.trace_check.specs.Shows.{Shows}
 use Rattle.trace_check.specs.Streams.{first_unmet_known}
 use Rattle.trace_check.proofs.SameConditions.{same_unmet}
+use Rattle.trace_check.proofs.NotedSeats.{agrees_drawn}
 use Rattle.trace_check.proofs.machine.Machine.step.Goals as goal
 
 pub returns : goal.returns
