@@ -58,7 +58,7 @@ none_keep at s0 r s none =
 none_other : (at : ℕ → Option Stream) (s0 : ℕ) (r : Stream) (s : ℕ) → changed at s0 (Some r) s ≡ None → s0 ≢ s
 none_other at s0 r s none e = let bad : Some r ≡ None = rw (eq-eqb s s0 (sym e)) at none in absurd (cc bad)
 
-proj_same : {X Y : Type 0} (proj : X → Y) (k0 : ℕ) (f : X → X) (xs : List X) (k : ℕ) (d : X) → ((x : X) → proj (f x) ≡ proj x)
+pub proj_same : {X Y : Type 0} (proj : X → Y) (k0 : ℕ) (f : X → X) (xs : List X) (k : ℕ) (d : X) → ((x : X) → proj (f x) ≡ proj x)
     → proj (get_or (change_at k0 f xs) k d) ≡ proj (get_or xs k d)
 proj_same proj k0 f [] k d same = refl
 proj_same proj zero f (x ∷ xs) zero d same = same x
@@ -67,7 +67,7 @@ proj_same proj (suc k0) f (x ∷ xs) zero d same = refl
 proj_same proj (suc k0) f (x ∷ xs) (suc k) d same = proj_same proj k0 f xs k d same
 
 -- a test of a seat's lists that a note may make true
-touched : (proj : SeatLists → Bool) (b : Bool) (k0 : ℕ) (f : SeatLists → SeatLists) (seats : List SeatLists) (k : ℕ) → k0 < length seats
+pub touched : (proj : SeatLists → Bool) (b : Bool) (k0 : ℕ) (f : SeatLists → SeatLists) (seats : List SeatLists) (k : ℕ) → k0 < length seats
     → ((x : SeatLists) → proj (f x) ≡ (proj x || b))
     → proj (lists_at (change_at k0 f seats) k) ≡ (proj (lists_at seats k) || (k == k0 && b))
 touched proj b k0 f seats k lt more =

@@ -45,6 +45,7 @@ times_in item entries = weigh (λ entry. one_if (entry.item == item)) entries
 pub record IsReached (core : Core) (at : ℕ → Option Stream) : Type 0 where
   pub seats : length core.seats ≡ core.shape.engines + core.shape.workers
   pub few : core.shape.engines + core.shape.workers ≤ 8
+  pub small : (q : ℕ) → length (queue_of core q).items ≤ 16384
   -- each tag is a stream with a record
   pub tagged : (q i : ℕ) → (item_of core q i).tag ≢ 0 → is_some (at (item_of core q i).tag) ≡ true
   -- an item stands at most once in one list, and only where it is said to be there; one in the free list has tag 0

@@ -5,6 +5,8 @@ use Rattle.trace_check.specs.Shows.{Shows}
 use Rattle.trace_check.specs.Streams.{first_unmet_known}
 use Rattle.trace_check.proofs.SameConditions.{same_unmet}
 use Rattle.trace_check.proofs.NotedSeats.{agrees_drawn}
+use Rattle.trace_check.proofs.Reached.{reached_item}
+use Rattle.trace_check.proofs.Kept.{Kept}
 use Rattle.trace_check.proofs.machine.Machine.step.Goals as goal
 
 pub returns : goal.returns
