@@ -13,7 +13,7 @@ use Rattle.trace_check.proofs.SameConditions.{frame_of}
 use Rattle.trace_check.proofs.SeatNotes.{any_snoc, changed_at, unchanged_at, length-changed}
 use Rattle.unit_model.specs.Conditions.{conditions_of, first_unmet, has_tag, is_either, is_engine, is_first_free_item, is_first_line_item, is_same_part, is_there, is_worker, may_empty, may_fill, may_use, part_of, seat_holds, unless}
 use Rattle.unit_model.specs.Core.{blank, first_item, item_of, no_queue, queue_of, role_of, whereabouts_code}
-use Rattle.unit_model.specs.Effects.{after_step, with_free, with_in_line, with_item, with_note, with_run_owner, without_first_free, without_first_in_line}
+use Rattle.unit_model.specs.Effects.{after_step, with_free, with_in_line, with_item, with_note, with_opened, with_owner, with_run_owner, without_first_free, without_first_in_line}
 use Rattle.unit_model.specs.Lists.{change_at}
 use Rattle.unit_model.specs.Weights.{weigh, below, one_if}
 use Rattle.unit_model.specs.declared.machine.Core.{Core}
@@ -157,3 +157,157 @@ kept_get_item core at seat queue item place a r unmet =
     (a, reached_item core at at core.owners core.seats _ queue item new changed r refl (λ k p e. e) (λ p. refl) (λ s. refl) less
     (two_here core.queues queue (λ q. record q { items = set q.items item new }) (λ q. record q { free = drop 1 q.free }) lt) refl
     (λ q ne. two_apart core.queues queue (λ q. record q { items = set q.items item new }) (λ q. record q { free = drop 1 q.free }) q ne) meets)
+
+pop_role : (core : Core) (seat queue : ℕ) → queue ≢ 0 → (if queue == 0 then is_worker core seat else is_engine core seat) ≡ None → role_of core seat ≡ 0
+pop_role core seat queue ne met = engine_role core seat (rw (ne_eqb queue 0 ne) at met)
+
+kept_pop : (core : Core) (at : ℕ → Option Stream) (seat queue item place : ℕ) → Agrees core.seats at → IsReached core at
+    → first_unmet core (Pop seat queue item place) ≡ None → Kept core at (Pop seat queue item place)
+unfolding conditions_of after_step with_item without_first_in_line stream_after
+kept_pop core at seat queue item place a r unmet =
+    let met = each_met (conditions_of core (Pop seat queue item place)) unmet in
+    let there = empty_there core seat queue item (met 1) in
+    let lt = queue_there core queue item there in
+    let less = there_less core queue item there in
+    let small : item ≤ 16384 = omega (arith, less, r.small queue) in
+    let Q = queue_of core queue in
+    let old = item_of core queue item in
+    let new : Item = record old { whereabouts = WithSeat seat } in
+    let first = taken_first Q.line item (first_in_line core queue item (met 3)) small in
+    let code1 : whereabouts_code old.whereabouts ≡ 2 ^ 32 = code_of_times (whereabouts_code old.whereabouts) (2 ^ 32) (times_in item Q.line) (omega (arith, first)) (r.in_line queue item) in
+    let changed : Queue = record Q { line = drop 1 Q.line; items = set Q.items item new } in
+    let meets : Meets core at core.seats queue item new Q changed = record {
+      tagged = r.tagged queue item;
+      free = omega (arith, r.free queue item, none_there (whereabouts_code old.whereabouts) 0 (omega (arith, code1)));
+      others_free = λ i ne. omega arith;
+      in_line = omega (arith, first, r.in_line queue item, at_most_one (whereabouts_code old.whereabouts == 2 ^ 32));
+      others_in_line = λ i ne. fewer_behind Q.line i;
+      untagged = λ (e : 1 + seat ≡ 0). absurd (omega (arith, e));
+      held = λ k back (at_k : 1 + seat ≡ 1 + k) worker ne.
+          let role : role_of core seat ≡ 0 = pop_role core seat queue back (met 0) in
+          let same : seat ≡ k = omega (arith, at_k) in
+          absurd (omega (arith, sym role ∙ ap (role_of core) same ∙ worker));
+    } in
+    (a, reached_item core at at core.owners core.seats _ queue item new changed r refl (λ k p e. e) (λ p. refl) (λ s. refl) less
+    (two_here core.queues queue (λ q. record q { items = set q.items item new }) (λ q. record q { line = drop 1 q.line }) lt) refl
+    (λ q ne. two_apart core.queues queue (λ q. record q { items = set q.items item new }) (λ q. record q { line = drop 1 q.line }) q ne) meets)
+
+kept_set_run : (core : Core) (at : ℕ → Option Stream) (seat queue item : ℕ) (run : Run) → Agrees core.seats at → IsReached core at
+    → first_unmet core (SetRun seat queue item run) ≡ None → Kept core at (SetRun seat queue item run)
+unfolding conditions_of after_step with_item stream_after
+kept_set_run core at seat queue item run a r unmet =
+    let met = each_met (conditions_of core (SetRun seat queue item run)) unmet in
+    let there = fill_there core seat queue item (met 1) in
+    let lt = queue_there core queue item there in
+    let Q = queue_of core queue in
+    let old = item_of core queue item in
+    let new : Item = record old { run = run } in
+    let changed : Queue = record Q { items = set Q.items item new } in
+    let meets : Meets core at core.seats queue item new Q changed = record {
+      tagged = r.tagged queue item;
+      free = r.free queue item;
+      others_free = λ i ne. omega arith;
+      in_line = r.in_line queue item;
+      others_in_line = λ i ne. omega arith;
+      untagged = r.untagged queue item;
+      held = λ k back at_k worker ne. r.held queue item k back at_k worker ne;
+    } in
+    (a, reached_item core at at core.owners core.seats _ queue item new changed r refl (λ k p e. e) (λ p. refl) (λ s. refl) (there_less core queue item there)
+    (changed_at queue (λ q. record q { items = set q.items item new }) core.queues no_queue lt) refl
+    (λ q ne. unchanged_at queue q (λ q. record q { items = set q.items item new }) core.queues no_queue ne) meets)
+
+kept_set_part : (core : Core) (at : ℕ → Option Stream) (seat queue item part : ℕ) → Agrees core.seats at → IsReached core at
+    → first_unmet core (SetPart seat queue item part) ≡ None → Kept core at (SetPart seat queue item part)
+unfolding conditions_of after_step with_item stream_after
+kept_set_part core at seat queue item part a r unmet =
+    let met = each_met (conditions_of core (SetPart seat queue item part)) unmet in
+    let there = fill_there core seat queue item (met 1) in
+    let lt = queue_there core queue item there in
+    let Q = queue_of core queue in
+    let old = item_of core queue item in
+    let new : Item = record old { part = part } in
+    let tag0 : old.tag ≡ 0 = tag_is core queue item 0 (met 3) in
+    let changed : Queue = record Q { items = set Q.items item new } in
+    let meets : Meets core at core.seats queue item new Q changed = record {
+      tagged = r.tagged queue item;
+      free = r.free queue item;
+      others_free = λ i ne. omega arith;
+      in_line = r.in_line queue item;
+      others_in_line = λ i ne. omega arith;
+      untagged = r.untagged queue item;
+      held = λ k back at_k worker ne. absurd (ne tag0);
+    } in
+    (a, reached_item core at at core.owners core.seats _ queue item new changed r refl (λ k p e. e) (λ p. refl) (λ s. refl) (there_less core queue item there)
+    (changed_at queue (λ q. record q { items = set q.items item new }) core.queues no_queue lt) refl
+    (λ q ne. unchanged_at queue q (λ q. record q { items = set q.items item new }) core.queues no_queue ne) meets)
+
+kept_push : (core : Core) (at : ℕ → Option Stream) (seat queue item place : ℕ) → Agrees core.seats at → IsReached core at
+    → first_unmet core (Push seat queue item place) ≡ None → Kept core at (Push seat queue item place)
+unfolding conditions_of after_step with_item with_in_line stream_after
+kept_push core at seat queue item place a r unmet =
+    let met = each_met (conditions_of core (Push seat queue item place)) unmet in
+    let there = fill_there core seat queue item (met 1) in
+    let lt = queue_there core queue item there in
+    let Q = queue_of core queue in
+    let old = item_of core queue item in
+    let new : Item = record old { whereabouts = InLine } in
+    let entry : Entry = record { place = place; item = item } in
+    let code : whereabouts_code old.whereabouts ≡ 1 + seat = held_code core seat queue item (met 2) in
+    let few : seat < 8 = seat_small core at seat r (either_small core seat (met 0)) in
+    let f : Queue → Queue = λ q. record q { items = set q.items item new } in
+    let g : Queue → Queue = λ q. record q { line = q.line ++ entry ∷ []; next_line = place + 1 } in
+    let meets : Meets core at core.seats queue item new Q (f (g Q)) = record {
+      tagged = r.tagged queue item;
+      free = omega (arith, r.free queue item, none_there (whereabouts_code old.whereabouts) 0 (omega (arith, code)));
+      others_free = λ i ne. omega arith;
+      in_line = omega (arith, times_snoc Q.line entry item, one_here item, r.in_line queue item, none_there (whereabouts_code old.whereabouts) (2 ^ 32) (omega (arith, code, few)), one_here (2 ^ 32));
+      others_in_line = λ i ne. omega (arith, times_snoc Q.line entry i, none_there item i (λ (e : item ≡ i). ne (sym e)));
+      untagged = λ (e : 2 ^ 32 ≡ 0). absurd (omega (arith, e));
+      held = λ k back (at_k : 2 ^ 32 ≡ 1 + k) worker ne.
+          let k_small : k < 8 = seat_small core at k r (omega (arith, worker)) in
+          absurd (omega (arith, at_k, k_small));
+    } in
+    (a, reached_item core at at core.owners core.seats _ queue item new (f (g Q)) r refl (λ k p e. e) (λ p. refl) (λ s. refl) (there_less core queue item there)
+    (two_here core.queues queue f g lt) refl (λ q ne. two_apart core.queues queue f g q ne) meets)
+
+kept_give_item : (core : Core) (at : ℕ → Option Stream) (seat queue item place : ℕ) → Agrees core.seats at → IsReached core at
+    → first_unmet core (GiveItem seat queue item place) ≡ None → Kept core at (GiveItem seat queue item place)
+unfolding conditions_of after_step with_item with_free stream_after
+kept_give_item core at seat queue item place a r unmet =
+    let met = each_met (conditions_of core (GiveItem seat queue item place)) unmet in
+    let there = use_there core queue item (met 1) in
+    let lt = queue_there core queue item there in
+    let Q = queue_of core queue in
+    let old = item_of core queue item in
+    let new : Item = record old { whereabouts = InFreeList } in
+    let entry : Entry = record { place = place; item = item } in
+    let code : whereabouts_code old.whereabouts ≡ 1 + seat = held_code core seat queue item (met 2) in
+    let tag0 : old.tag ≡ 0 = tag_is core queue item 0 (met 3) in
+    let few : seat < 8 = seat_small core at seat r (either_small core seat (met 0)) in
+    let f : Queue → Queue = λ q. record q { items = set q.items item new } in
+    let g : Queue → Queue = λ q. record q { free = q.free ++ entry ∷ []; next_free = place + 1 } in
+    let meets : Meets core at core.seats queue item new Q (f (g Q)) = record {
+      tagged = λ ne. absurd (ne tag0);
+      free = omega (arith, times_snoc Q.free entry item, one_here item, r.free queue item, none_there (whereabouts_code old.whereabouts) 0 (omega (arith, code)));
+      others_free = λ i ne. omega (arith, times_snoc Q.free entry i, none_there item i (λ (e : item ≡ i). ne (sym e)));
+      in_line = omega (arith, r.in_line queue item, none_there (whereabouts_code old.whereabouts) (2 ^ 32) (omega (arith, code, few)));
+      others_in_line = λ i ne. omega arith;
+      untagged = λ e. tag0;
+      held = λ k back at_k worker ne. absurd (ne tag0);
+    } in
+    (a, reached_item core at at core.owners core.seats _ queue item new (f (g Q)) r refl (λ k p e. e) (λ p. refl) (λ s. refl) (there_less core queue item there)
+    (two_here core.queues queue f g lt) refl (λ q ne. two_apart core.queues queue f g q ne) meets)
+
+-- ---- steps of chunks and segments
+
+kept_claim : (core : Core) (at : ℕ → Option Stream) (seat segment chunk : ℕ) → Agrees core.seats at → IsReached core at → Kept core at (Claim seat segment chunk)
+unfolding after_step with_owner stream_after
+kept_claim core at seat segment chunk a r = (a, reached_elsewhere core at at core.opened _ core.seats r refl (λ k p e. e) (λ p. refl) (λ s. refl))
+
+kept_release : (core : Core) (at : ℕ → Option Stream) (seat segment chunk : ℕ) → Agrees core.seats at → IsReached core at → Kept core at (Release seat segment chunk)
+unfolding after_step with_owner stream_after
+kept_release core at seat segment chunk a r = (a, reached_elsewhere core at at core.opened _ core.seats r refl (λ k p e. e) (λ p. refl) (λ s. refl))
+
+kept_open : (core : Core) (at : ℕ → Option Stream) (seat count : ℕ) → Agrees core.seats at → IsReached core at → Kept core at (Open seat count)
+unfolding after_step with_opened stream_after
+kept_open core at seat count a r = (a, reached_elsewhere core at at _ core.owners core.seats r refl (λ k p e. e) (λ p. refl) (λ s. refl))
