@@ -1,5 +1,10 @@
+pub mod Bytes
+pub mod Counted
 pub mod Lines
 pub mod Numbers
+pub mod Outcomes
 pub mod Owners
+pub mod Reading
 pub mod Shows
 pub mod Streams
+pub mod Verdicts

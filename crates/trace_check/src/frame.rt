@@ -50,8 +50,10 @@ fn owner_code(owner: Owner) -> u64
 }
 
 impl Frame {
+    #[tactic(auto, using(crate::proofs::Listed::listed_length))]
     pub(crate) fn chunk_count(&self) -> u64
-        ensures { result ≡ 640 * (self.now.shape.out_segments + self.now.shape.back_segments) }
+        ensures value { result ≡ 640 * (self.now.shape.out_segments + self.now.shape.back_segments) }
+        ensures owners { length self.now.owners ≡ result }
     {
         CHUNKS * (self.shape.out_segments as u64 + self.shape.back_segments as u64)
     }

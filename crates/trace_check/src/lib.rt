@@ -8,5 +8,10 @@ mod lane;
 mod line;
 mod machine;
 mod number;
+mod reading;
 mod steps;
 mod streams;
+mod tally;
+mod verdict;
+
+pub use verdict::Verdict;

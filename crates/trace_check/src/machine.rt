@@ -19,6 +19,22 @@ pub(crate) struct Machine {
     pub(crate) streams: BTreeMap<u64, Stream>,
 }
 
+impl Machine {
+    /// The core of a valid shape as it begins. Fails for want of memory alone.
+    pub(crate) fn open(alloc: Global, shape: &Shape) -> Result<Machine, AllocError>
+        requires { IsValid shape.now }
+        ensures { IfOk result (λ machine. Shows (opened_core shape.now) machine) }
+    {
+        Ok(Machine {
+            frame: Frame::open(alloc, shape)?,
+            streams: BTreeMap::new(alloc),
+        })
+    }
+}
+ghost use Rattle.trace_check.specs.Shows.{Shows};
+ghost use Rattle.unit_model.specs.Opening.{opened_core};
+ghost use Rattle.unit_model.specs.Shapes.{IsValid};
+
 // The eleventh condition.
 impl Machine {
     pub(crate) fn stream(&self, stream: u64) -> Option<Stream>
