@@ -1,4 +1,5 @@
 pub mod Bytes
+pub mod Checking
 pub mod Counted
 pub mod Lines
 pub mod Numbers

@@ -1,6 +1,7 @@
 //! Checks a trace of steps: whether each step was enabled in its turn, trusting nothing of the trace's maker.
 #![tactic(auto)]
 
+mod checker;
 mod conditions;
 mod effects;
 mod frame;
@@ -14,4 +15,8 @@ mod streams;
 mod tally;
 mod verdict;
 
+pub use checker::Checker;
 pub use verdict::Verdict;
+
+#[cfg(test)]
+mod tests;

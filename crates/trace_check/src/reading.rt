@@ -172,6 +172,47 @@ ghost use Rattle.trace_check.specs.Bytes.{after_byte, after_bytes};
 ghost use Rattle.trace_check.specs.Counted.{CountsOn};
 ghost use Rattle.trace_check.specs.Verdicts.{going, on_rest};
 
+impl Reading {
+    /// The verdict where no more bytes come. It takes no memory.
+    pub(crate) fn verdict_at_end(&self) -> Verdict
+        ensures { (at : Passed) (text : List ℕ) → Follows at text self.now → result ≡ verdict_at (going at text) }
+    {
+        if !self.text.is_empty() {
+            return Verdict::Broken(self.place);
+        }
+        let tally = self.machine.tally();
+        Verdict::Legal {
+            steps: self.steps,
+            free: tally.free,
+            chunks: tally.chunks,
+            drawn: tally.drawn,
+            accepted: tally.accepted,
+            cancelled: tally.cancelled,
+            abandoned: tally.abandoned,
+            refused: tally.refused,
+            left_open: tally.left_open,
+        }
+    }
+}
+ghost use Rattle.trace_check.specs.Verdicts.{verdict_at};
+
+impl Reading {
+    /// Takes the bytes in turn, given the verdict where it is decided, until it is. Fails for want of memory alone.
+    pub(crate) fn go_on(&mut self, alloc: Global, verdict: Option<Verdict>, piece: &[u8]) -> Result<Option<Verdict>, AllocError>
+        requires counted { (bytes : ℕ) × IsCounted self.old bytes × (bytes + length piece.now < 2 ^ 64) }
+        ensures stands { IfOk result (λ after. (bytes : List ℕ) → Stands (standing_of bytes) verdict self.old → Stands (standing_of (bytes ++ piece.now)) after self.new) }
+        ensures counted { (bytes : ℕ) → IsCounted self.old bytes → IsCounted self.new (bytes + length piece.now) }
+    {
+        if verdict.is_some() {
+            return Ok(verdict);
+        }
+        let after = self.take(alloc, piece)?;
+        Ok(after)
+    }
+}
+ghost use Rattle.std.specs.Prelude.{◌++◌};
+ghost use Rattle.trace_check.specs.Verdicts.{standing_of};
+
 fn plain_shape() -> Shape
     ensures value { result ≡ plain_shape }
     ensures valid { IsValid result }
