@@ -1,0 +1,11 @@
+pub mod Bytes
+pub mod Checking
+pub mod Counted
+pub mod Lines
+pub mod Numbers
+pub mod Outcomes
+pub mod Owners
+pub mod Reading
+pub mod Shows
+pub mod Streams
+pub mod Verdicts
