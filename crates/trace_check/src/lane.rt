@@ -1,8 +1,8 @@
 //! A queue whose lists give and take at their ends.
-ghost use Rattle.std.specs.Prelude.{◌≡◌, ◌<◌, ◌+◌, ◌^◌, ◌∷◌, ◌++◌, [], OnOk, IfOk, drop, get_or, length, nat_lt, slice_set};
 ghost use Rattle.std.specs.List.{list_any};
+ghost use Rattle.std.specs.Prelude.{◌≡◌, ◌<◌, ◌+◌, ◌^◌, ◌∷◌, ◌++◌, [], OnOk, IfOk, drop, get_or, length, nat_lt, slice_set, ◌==◌, ◌&&◌, replicate};
 ghost use Rattle.unit_model.specs.Core.{blank, first_item, first_place, whereabouts_code};
-ghost use Rattle.unit_model.specs.Opening.{fresh_queue};
+ghost use Rattle.unit_model.specs.Opening.{fresh_queue, first_entries};
 
 use std::alloc::{AllocError, Global};
 use std::collections::VecDeque;
@@ -86,7 +86,6 @@ fn has_held(code: u64, tag: u64, items: &[Item]) -> bool
 {
     items.iter().any(|item| whereabouts_code(item.whereabouts) == code && item.tag == tag)
 }
-ghost use Rattle.std.specs.Prelude.{◌==◌, ◌&&◌};
 
 impl Lane {
     pub(crate) fn free_place(&self) -> u64
@@ -201,8 +200,6 @@ impl Lane {
         })
     }
 }
-ghost use Rattle.unit_model.specs.Opening.{first_entries};
-ghost use Rattle.std.specs.Prelude.{replicate};
 
 #[tactic(auto, using(crate::proofs::Entries::one_entry_more))]
 fn first_entries(alloc: Global, start: u64, items: u32) -> Result<VecDeque<Entry>, AllocError>

@@ -1,11 +1,13 @@
 //! What the steps do.
-ghost use Rattle.std.specs.Prelude.{◌≡◌, ◌==◌, if◌then◌else◌, ◌+◌, ◌<◌, ◌≤◌, ◌^◌, ℕ, IfOk, IfSome, OnOk, Option, Some, None, option_map, [], ◌∷◌};
 ghost use Rattle.std.specs.BTreeMap.{get};
 ghost use Rattle.std.specs.Ordering.{nat_cmp};
+ghost use Rattle.std.specs.Prelude.{◌≡◌, ◌==◌, if◌then◌else◌, ◌+◌, ◌<◌, ◌≤◌, ◌^◌, ℕ, IfOk, IfSome, OnOk, Option, Some, None, option_map, [], ◌∷◌};
+ghost use Rattle.trace_check.specs.Shows.{Shows};
 ghost use Rattle.trace_check.specs.Streams.{abandoned_stream, armed_stream, first_unmet_known, frame_after, settled_stream, stream_after};
 ghost use Rattle.unit_model.specs.Conditions.{first_unmet};
 ghost use Rattle.unit_model.specs.Core.{item_of};
-ghost use Rattle.unit_model.specs.Effects.{with_free, with_in_line, with_item, with_opened, without_first_free, without_first_in_line};
+ghost use Rattle.unit_model.specs.Effects.{with_free, with_in_line, with_item, with_opened, without_first_free, without_first_in_line, after_step};
+ghost use Rattle.unit_model.specs.declared.machine.Core.{Core};
 
 use crate::frame::{Frame, chunk_number};
 use crate::machine::Machine;
@@ -97,7 +99,11 @@ fn put(streams: &mut BTreeMap<u64, Stream>, number: u64, stream: Stream) -> Resu
 }
 
 // Puts the changed record of a stream into the map, where it had one. Fails for want of memory alone.
-fn put_changed(streams: &mut BTreeMap<u64, Stream>, number: u64, stream: Option<Stream>) -> Result<(), AllocError>
+fn put_changed(
+    streams: &mut BTreeMap<u64, Stream>,
+    number: u64,
+    stream: Option<Stream>,
+) -> Result<(), AllocError>
     requires { stream ≡ None → get nat_cmp streams.old number ≡ None }
     ensures { OnOk result ((n : ℕ) → get nat_cmp streams.new n ≡ (if n == number then stream else get nat_cmp streams.old n)) }
 {
@@ -117,7 +123,13 @@ fn armed(stream: Option<Stream>, queue: u32, item: &Item) -> Option<Stream>
     }
 }
 
-fn settled(stream: Option<Stream>, is_engine: bool, seat: u32, queue: u32, item: &Item) -> Option<Stream>
+fn settled(
+    stream: Option<Stream>,
+    is_engine: bool,
+    seat: u32,
+    queue: u32,
+    item: &Item,
+) -> Option<Stream>
     ensures value { result ≡ option_map (settled_stream is_engine seat queue item.now) stream }
     ensures none { result ≡ None → stream ≡ None }
 {
@@ -163,7 +175,8 @@ impl Machine {
             ..old
         };
         self.frame.set_item(queue, item, new);
-        self.frame.set_run_owner(old.run, Owner::Message(queue, item))?;
+        self.frame
+            .set_run_owner(old.run, Owner::Message(queue, item))?;
         Ok(())
     }
 
@@ -308,6 +321,3 @@ impl Machine {
         Ok(unmet)
     }
 }
-ghost use Rattle.trace_check.specs.Shows.{Shows};
-ghost use Rattle.unit_model.specs.declared.machine.Core.{Core};
-ghost use Rattle.unit_model.specs.Effects.{after_step};
