@@ -18,8 +18,8 @@ use unit_model::{Entry, Item, Owner, Step, Unmet, Whereabouts};
 
 // What the steps do to a frame.
 impl Frame {
-    pub(crate) fn get_item(&mut self, seat: u32, queue: u32, item: u32)
-        ensures { self.new ≡ with_item queue item (record (item_of self.old queue item) { whereabouts = Whereabouts.WithSeat seat }) (without_first_free queue self.old) }
+    pub(crate) fn get_item(&mut self, seat: u32, queue: u32, item: u32) -> Result<(), AllocError>
+        ensures { OnOk result (self.new ≡ with_item queue item (record (item_of self.old queue item) { whereabouts = Whereabouts.WithSeat seat }) (without_first_free queue self.old)) }
     {
         let old = self.item_of(queue, item);
         self.drop_first_free(queue);
@@ -27,11 +27,11 @@ impl Frame {
             whereabouts: Whereabouts::WithSeat(seat),
             ..old
         };
-        self.set_item(queue, item, held);
+        self.set_item(queue, item, held)
     }
 
-    pub(crate) fn pop(&mut self, seat: u32, queue: u32, item: u32)
-        ensures { self.new ≡ with_item queue item (record (item_of self.old queue item) { whereabouts = Whereabouts.WithSeat seat }) (without_first_in_line queue self.old) }
+    pub(crate) fn pop(&mut self, seat: u32, queue: u32, item: u32) -> Result<(), AllocError>
+        ensures { OnOk result (self.new ≡ with_item queue item (record (item_of self.old queue item) { whereabouts = Whereabouts.WithSeat seat }) (without_first_in_line queue self.old)) }
     {
         let old = self.item_of(queue, item);
         self.drop_first_in_line(queue);
@@ -39,7 +39,7 @@ impl Frame {
             whereabouts: Whereabouts::WithSeat(seat),
             ..old
         };
-        self.set_item(queue, item, held);
+        self.set_item(queue, item, held)
     }
 
     pub(crate) fn push(&mut self, queue: u32, item: u32, place: u64) -> Result<(), AllocError>
@@ -52,8 +52,7 @@ impl Frame {
             whereabouts: Whereabouts::InLine,
             ..old
         };
-        self.set_item(queue, item, pushed);
-        Ok(())
+        self.set_item(queue, item, pushed)
     }
 
     pub(crate) fn give_item(&mut self, queue: u32, item: u32, place: u64) -> Result<(), AllocError>
@@ -66,8 +65,7 @@ impl Frame {
             whereabouts: Whereabouts::InFreeList,
             ..old
         };
-        self.set_item(queue, item, given);
-        Ok(())
+        self.set_item(queue, item, given)
     }
 
     // The number of segments of the larger side.
@@ -174,7 +172,7 @@ impl Machine {
             stream,
             ..old
         };
-        self.frame.set_item(queue, item, new);
+        self.frame.set_item(queue, item, new)?;
         self.frame
             .set_run_owner(old.run, Owner::Message(queue, item))?;
         Ok(())
@@ -189,7 +187,7 @@ impl Machine {
         let is_engine = self.frame.role_of(seat) == 0;
         let known = settled(self.stream(stream), is_engine, seat, queue, &old);
         put_changed(&mut self.streams, stream, known)?;
-        self.frame.set_item(queue, item, Item { tag: 0, ..old });
+        self.frame.set_item(queue, item, Item { tag: 0, ..old })?;
         self.frame.set_run_owner(old.run, Owner::Seat(seat))?;
         Ok(())
     }
@@ -236,10 +234,7 @@ impl Machine {
                 queue,
                 item,
                 ..
-            } => {
-                self.frame.get_item(seat, queue, item);
-                Ok(())
-            }
+            } => self.frame.get_item(seat, queue, item),
             Step::SetRun {
                 queue,
                 item,
@@ -247,8 +242,7 @@ impl Machine {
                 ..
             } => {
                 let old = self.frame.item_of(queue, item);
-                self.frame.set_item(queue, item, Item { run, ..old });
-                Ok(())
+                self.frame.set_item(queue, item, Item { run, ..old })
             }
             Step::SetPart {
                 queue,
@@ -257,8 +251,7 @@ impl Machine {
                 ..
             } => {
                 let old = self.frame.item_of(queue, item);
-                self.frame.set_item(queue, item, Item { part, ..old });
-                Ok(())
+                self.frame.set_item(queue, item, Item { part, ..old })
             }
             Step::Arm {
                 seat,
@@ -277,10 +270,7 @@ impl Machine {
                 queue,
                 item,
                 ..
-            } => {
-                self.frame.pop(seat, queue, item);
-                Ok(())
-            }
+            } => self.frame.pop(seat, queue, item),
             Step::Settle {
                 seat,
                 queue,
