@@ -1,11 +1,11 @@
 -- Each step leads from what it may lead from to a core that steps have led to, and the records still agree.
-use Rattle.std.proofs.Common.{◌≡◌, ◌≢◌, ◌∙◌, ◌⊎◌, ⊎_elim, ℕ, zero, suc, ◌+◌, ◌-◌, ◌^◌, ◌<◌, ◌≤◌, ◌==◌, ◌&&◌, ◌||◌, not, nat_lt, nat_le, Bool, true, false, if◌then◌else◌, List, [], ◌∷◌, ◌++◌, drop, length, get_or, set, refl, sym, ap, subst, arith}
+use Rattle.std.proofs.Common.{◌≡◌, ◌≢◌, ◌∙◌, ⊎_elim, ℕ, suc, ◌+◌, ◌-◌, ◌^◌, ◌<◌, ◌≤◌, ◌==◌, ◌&&◌, ◌||◌, not, nat_lt, Bool, true, false, if◌then◌else◌, List, [], ◌∷◌, ◌++◌, drop, length, get_or, set, refl, sym, ap, subst, arith}
 use Rattle.std.specs.Prelude.{Option, Some, None, is_some, option_map, count_by}
 use Rattle.std.specs.List.{list_any}
 use Rattle.std.proofs.lemmas.Bool.Decides.{nat_tests}
-use Rattle.std.proofs.lemmas.Bool.{and_parts, cases_eq, eq-eqb, ne_eqb, eqb-true, eqb-false, ltb-true, leb-true}
+use Rattle.std.proofs.lemmas.Bool.{and_parts, cases_eq, eq-eqb, ne_eqb, eqb-true, ltb-true, leb-true}
 use Rattle.trace_check.specs.Shows.{Agrees, IsReached, lists_at, times_in}
-use Rattle.trace_check.specs.Streams.{abandoned_stream, armed_stream, drawn_stream, known, drawn_by, frame_after, posted_by, sent_of, settled_stream, stream_after}
+use Rattle.trace_check.specs.Streams.{abandoned_stream, drawn_stream, known, drawn_by, frame_after, posted_by, sent_of, stream_after}
 use Rattle.trace_check.specs.declared.streams.Stream.{Stream}
 use Rattle.trace_check.proofs.MetConditions.{each_met, test_of}
 use Rattle.trace_check.proofs.Reached.{Meets, SameDrawn, SameKnown, StillSent, below_same, queue_there, reached_elsewhere, reached_item}
@@ -13,8 +13,8 @@ use Rattle.trace_check.proofs.NotedSeats.{agrees_abandoned, agrees_cancelled, ag
 use Rattle.trace_check.proofs.SameConditions.{frame_of, posted_drawn}
 use Rattle.trace_check.proofs.SeatNotes.{any_snoc, changed_at, count_snoc, unchanged_at, length-changed, weigh_changed, weigh_unchanged}
 use Rattle.unit_model.specs.Conditions.{conditions_of, first_unmet, has_stream, has_tag, is_either, is_engine, is_first_free_item, is_first_line_item, is_same_part, is_next_stream, is_there, is_worker, may_abandon, may_arm, may_empty, may_fill, may_post, may_send, may_settle, may_use, may_win_part, may_win_request, part_of, seat_holds, unless}
-use Rattle.unit_model.specs.Core.{blank, first_item, item_of, is_last_in, no_queue, no_seat, number_in, queue_of, role_of, whereabouts_code}
-use Rattle.unit_model.specs.Effects.{after_step, armed_note, noted, settled_note, with_free, with_in_line, with_item, with_note, with_opened, with_owner, with_run_owner, without_first_free, without_first_in_line}
+use Rattle.unit_model.specs.Core.{first_item, item_of, is_last_in, no_queue, no_seat, number_in, queue_of, role_of, whereabouts_code}
+use Rattle.unit_model.specs.Effects.{after_step, noted, with_free, with_in_line, with_item, with_note, with_opened, with_owner, with_run_owner, without_first_free, without_first_in_line}
 use Rattle.unit_model.specs.Lists.{change_at}
 use Rattle.unit_model.specs.Weights.{weigh, below, one_if}
 use Rattle.unit_model.specs.declared.machine.Core.{Core}
@@ -156,10 +156,12 @@ kept_get_item core at seat queue item place a r unmet =
       others_in_line = λ i ne. omega arith;
       untagged = λ (e : 1 + seat ≡ 0). absurd (omega (arith, e));
       held = λ k back at_k worker ne. absurd (ne tag0);
-    } in
-    (a, reached_item core at at core.owners core.seats _ queue item new changed r refl (λ k p e. e) (λ p. refl) (λ s. refl) less
-    (two_here core.queues queue (λ q. record q { items = set q.items item new }) (λ q. record q { free = drop 1 q.free }) lt) refl
-    (λ q ne. two_apart core.queues queue (λ q. record q { items = set q.items item new }) (λ q. record q { free = drop 1 q.free }) q ne) meets)
+    } in (
+      a,
+      reached_item core at at core.owners core.seats _ queue item new changed r refl (λ k p e. e) (λ p. refl) (λ s. refl) less
+          (two_here core.queues queue (λ q. record q { items = set q.items item new }) (λ q. record q { free = drop 1 q.free }) lt) refl
+          (λ q ne. two_apart core.queues queue (λ q. record q { items = set q.items item new }) (λ q. record q { free = drop 1 q.free }) q ne) meets,
+    )
 
 pop_role : (core : Core) (seat queue : ℕ) → queue ≢ 0 → (if queue == 0 then is_worker core seat else is_engine core seat) ≡ None → role_of core seat ≡ 0
 pop_role core seat queue ne met = engine_role core seat (rw (ne_eqb queue 0 ne) at met)
@@ -190,10 +192,12 @@ kept_pop core at seat queue item place a r unmet =
           let role : role_of core seat ≡ 0 = pop_role core seat queue back (met 0) in
           let same : seat ≡ k = omega (arith, at_k) in
           absurd (omega (arith, sym role ∙ ap (role_of core) same ∙ worker));
-    } in
-    (a, reached_item core at at core.owners core.seats _ queue item new changed r refl (λ k p e. e) (λ p. refl) (λ s. refl) less
-    (two_here core.queues queue (λ q. record q { items = set q.items item new }) (λ q. record q { line = drop 1 q.line }) lt) refl
-    (λ q ne. two_apart core.queues queue (λ q. record q { items = set q.items item new }) (λ q. record q { line = drop 1 q.line }) q ne) meets)
+    } in (
+      a,
+      reached_item core at at core.owners core.seats _ queue item new changed r refl (λ k p e. e) (λ p. refl) (λ s. refl) less
+          (two_here core.queues queue (λ q. record q { items = set q.items item new }) (λ q. record q { line = drop 1 q.line }) lt) refl
+          (λ q ne. two_apart core.queues queue (λ q. record q { items = set q.items item new }) (λ q. record q { line = drop 1 q.line }) q ne) meets,
+    )
 
 kept_set_run : (core : Core) (at : ℕ → Option Stream) (seat queue item : ℕ) (run : Run) → Agrees core.seats at → IsReached core at
     → first_unmet core (SetRun seat queue item run) ≡ None → Kept core at (SetRun seat queue item run)
@@ -214,10 +218,12 @@ kept_set_run core at seat queue item run a r unmet =
       others_in_line = λ i ne. omega arith;
       untagged = r.untagged queue item;
       held = λ k back at_k worker ne. r.held queue item k back at_k worker ne;
-    } in
-    (a, reached_item core at at core.owners core.seats _ queue item new changed r refl (λ k p e. e) (λ p. refl) (λ s. refl) (there_less core queue item there)
-    (changed_at queue (λ q. record q { items = set q.items item new }) core.queues no_queue lt) refl
-    (λ q ne. unchanged_at queue q (λ q. record q { items = set q.items item new }) core.queues no_queue ne) meets)
+    } in (
+      a,
+      reached_item core at at core.owners core.seats _ queue item new changed r refl (λ k p e. e) (λ p. refl) (λ s. refl) (there_less core queue item there)
+          (changed_at queue (λ q. record q { items = set q.items item new }) core.queues no_queue lt) refl
+          (λ q ne. unchanged_at queue q (λ q. record q { items = set q.items item new }) core.queues no_queue ne) meets,
+    )
 
 kept_set_part : (core : Core) (at : ℕ → Option Stream) (seat queue item part : ℕ) → Agrees core.seats at → IsReached core at
     → first_unmet core (SetPart seat queue item part) ≡ None → Kept core at (SetPart seat queue item part)
@@ -239,10 +245,12 @@ kept_set_part core at seat queue item part a r unmet =
       others_in_line = λ i ne. omega arith;
       untagged = r.untagged queue item;
       held = λ k back at_k worker ne. absurd (ne tag0);
-    } in
-    (a, reached_item core at at core.owners core.seats _ queue item new changed r refl (λ k p e. e) (λ p. refl) (λ s. refl) (there_less core queue item there)
-    (changed_at queue (λ q. record q { items = set q.items item new }) core.queues no_queue lt) refl
-    (λ q ne. unchanged_at queue q (λ q. record q { items = set q.items item new }) core.queues no_queue ne) meets)
+    } in (
+      a,
+      reached_item core at at core.owners core.seats _ queue item new changed r refl (λ k p e. e) (λ p. refl) (λ s. refl) (there_less core queue item there)
+          (changed_at queue (λ q. record q { items = set q.items item new }) core.queues no_queue lt) refl
+          (λ q ne. unchanged_at queue q (λ q. record q { items = set q.items item new }) core.queues no_queue ne) meets,
+    )
 
 kept_push : (core : Core) (at : ℕ → Option Stream) (seat queue item place : ℕ) → Agrees core.seats at → IsReached core at
     → first_unmet core (Push seat queue item place) ≡ None → Kept core at (Push seat queue item place)
@@ -269,9 +277,11 @@ kept_push core at seat queue item place a r unmet =
       held = λ k back (at_k : 2 ^ 32 ≡ 1 + k) worker ne.
           let k_small : k < 8 = seat_small core at k r (omega (arith, worker)) in
           absurd (omega (arith, at_k, k_small));
-    } in
-    (a, reached_item core at at core.owners core.seats _ queue item new (f (g Q)) r refl (λ k p e. e) (λ p. refl) (λ s. refl) (there_less core queue item there)
-    (two_here core.queues queue f g lt) refl (λ q ne. two_apart core.queues queue f g q ne) meets)
+    } in (
+      a,
+      reached_item core at at core.owners core.seats _ queue item new (f (g Q)) r refl (λ k p e. e) (λ p. refl) (λ s. refl) (there_less core queue item there)
+          (two_here core.queues queue f g lt) refl (λ q ne. two_apart core.queues queue f g q ne) meets,
+    )
 
 kept_give_item : (core : Core) (at : ℕ → Option Stream) (seat queue item place : ℕ) → Agrees core.seats at → IsReached core at
     → first_unmet core (GiveItem seat queue item place) ≡ None → Kept core at (GiveItem seat queue item place)
@@ -297,9 +307,11 @@ kept_give_item core at seat queue item place a r unmet =
       others_in_line = λ i ne. omega arith;
       untagged = λ e. tag0;
       held = λ k back at_k worker ne. absurd (ne tag0);
-    } in
-    (a, reached_item core at at core.owners core.seats _ queue item new (f (g Q)) r refl (λ k p e. e) (λ p. refl) (λ s. refl) (there_less core queue item there)
-    (two_here core.queues queue f g lt) refl (λ q ne. two_apart core.queues queue f g q ne) meets)
+    } in (
+      a,
+      reached_item core at at core.owners core.seats _ queue item new (f (g Q)) r refl (λ k p e. e) (λ p. refl) (λ s. refl) (there_less core queue item there)
+          (two_here core.queues queue f g lt) refl (λ q ne. two_apart core.queues queue f g q ne) meets,
+    )
 
 -- ---- steps of chunks and segments
 
@@ -372,10 +384,11 @@ kept_abandon core at seat stream a r unmet =
     let own = own_of at seat stream record_is.0 record_is.1 (posted_drawn seat (at stream) posted) in
     let x = record_is.0 in
     let P : Option Stream → Type 0 = λ o. Agrees (change_at seat (noted (Abandoned stream)) core.seats) (changed at stream o) × IsReached (record core { seats = change_at seat (noted (Abandoned stream)) core.seats }) (changed at stream o) in
-    subst P (sym (ap (option_map abandoned_stream) record_is.1))
-    (agrees_abandoned core.seats at seat stream x a lt record_is.1 own,
-    reached_elsewhere core at _ core.opened core.owners _ r (length-changed seat (noted (Abandoned stream)) core.seats)
-    (still_sent core.seats seat _ (λ x. refl)) (same_drawn core.seats seat _ (λ x. refl)) (same_known at stream x _ record_is.1))
+    subst P (sym (ap (option_map abandoned_stream) record_is.1)) (
+      agrees_abandoned core.seats at seat stream x a lt record_is.1 own,
+      reached_elsewhere core at _ core.opened core.owners _ r (length-changed seat (noted (Abandoned stream)) core.seats)
+          (still_sent core.seats seat _ (λ x. refl)) (same_drawn core.seats seat _ (λ x. refl)) (same_known at stream x _ record_is.1),
+    )
 
 still_known : (at : ℕ → Option Stream) (s0 : ℕ) (t : Stream) (s : ℕ) → is_some (at s) ≡ true → is_some (changed at s0 (Some t) s) ≡ true
 still_known at s0 t s e =
@@ -389,7 +402,7 @@ one_more_drawn core at seat stream r lt next p =
     let more = weigh_changed (λ lists. count_by p lists.drawn) seat (noted (Drawn stream)) (one_if (p stream)) core.seats lt (λ x. count_snoc p x.drawn stream) in
     let f : ℕ → ℕ = λ s. one_if (is_some (changed at stream (Some (drawn_stream seat)) s) && p s) in
     let same : below f stream ≡ below (λ s. one_if (is_some (at s) && p s)) stream =
-        below_same f (λ s. one_if (is_some (at s) && p s)) stream (λ s less. let ne : s ≢ stream = omega arith in rw (ne_eqb s stream ne) refl) in
+    below_same f (λ s. one_if (is_some (at s) && p s)) stream (λ s less. let ne : s ≢ stream = omega arith in rw (ne_eqb s stream ne) refl) in
     let here : f stream ≡ one_if (p stream) = rw (eq-eqb stream stream refl) refl in
     let before : weigh (λ lists. count_by p lists.drawn) core.seats ≡ below (λ s. one_if (is_some (at s) && p s)) stream = r.numbered p ∙ ap (below (λ s. one_if (is_some (at s) && p s))) (sym next) in
     let suc_is : suc stream ≡ stream + 1 = omega arith in
@@ -407,20 +420,21 @@ kept_draw core at seat stream a r unmet =
     let absent : at stream ≡ None = r.recent stream (omega (arith, next)) in
     let seats = change_at seat (noted (Drawn stream)) core.seats in
     let after = changed at stream (Some (drawn_stream seat)) in
-    let still = still_sent core.seats seat (noted (Drawn stream)) (λ x. refl) in
-    (agrees_drawn core.seats at seat stream a lt absent,
-    record {
-      seats = length-changed seat (noted (Drawn stream)) core.seats ∙ r.seats;
-      few = r.few;
-      small = r.small;
-      tagged = λ q i ne. still_known at stream (drawn_stream seat) (item_of core q i).tag (r.tagged q i ne);
-      free = r.free;
-      in_line = r.in_line;
-      untagged = r.untagged;
-      held = λ q i k back at_k worker ne. still k _ (r.held q i k back at_k worker ne);
-      recent = λ s le. let ne : s ≢ stream = omega arith in rw (ne_eqb s stream ne) (r.recent s (omega (arith, next)));
-      numbered = λ p. one_more_drawn core at seat stream r lt next p;
-    })
+    let still = still_sent core.seats seat (noted (Drawn stream)) (λ x. refl) in (
+      agrees_drawn core.seats at seat stream a lt absent,
+      record {
+        seats = length-changed seat (noted (Drawn stream)) core.seats ∙ r.seats;
+        few = r.few;
+        small = r.small;
+        tagged = λ q i ne. still_known at stream (drawn_stream seat) (item_of core q i).tag (r.tagged q i ne);
+        free = r.free;
+        in_line = r.in_line;
+        untagged = r.untagged;
+        held = λ q i k back at_k worker ne. still k _ (r.held q i k back at_k worker ne);
+        recent = λ s le. let ne : s ≢ stream = omega arith in rw (ne_eqb s stream ne) (r.recent s (omega (arith, next)));
+        numbered = λ p. one_more_drawn core at seat stream r lt next p;
+      },
+    )
 
 -- an item of which the tag changes, with what the seat's note and the stream's record become
 kept_tag : (core : Core) (at : ℕ → Option Stream) (seat queue item stream : ℕ) (owners : List Owner) (f : SeatLists → SeatLists) (x t : Stream) (new : Item)
@@ -470,12 +484,13 @@ kept_post core at seat queue item stream owners a r role there code zero_queue a
     let drawn = sym (a.drawn seat stream) ∙ (and_parts _ _ (test_of _ 11 1 0 arm)).0 in
     let own = own_of at seat stream x is drawn in
     let old = item_of core queue item in
-    let new : Item = record old { tag = stream; stream = stream } in
-    (agrees_posted core.seats at seat stream x a lt is own,
-    kept_tag core at seat queue item stream owners (noted (Posted stream)) x (record x { posted = true }) new r there is
-    (still_sent core.seats seat (noted (Posted stream)) (λ l. refl)) (λ l. refl) refl (λ ne. refl)
-    (λ (z : whereabouts_code old.whereabouts ≡ 0). absurd (omega (arith, z, code)))
-    (λ k back at_k worker ne. absurd (back zero_queue)))
+    let new : Item = record old { tag = stream; stream = stream } in (
+      agrees_posted core.seats at seat stream x a lt is own,
+      kept_tag core at seat queue item stream owners (noted (Posted stream)) x (record x { posted = true }) new r there is
+          (still_sent core.seats seat (noted (Posted stream)) (λ l. refl)) (λ l. refl) refl (λ ne. refl)
+          (λ (z : whereabouts_code old.whereabouts ≡ 0). absurd (omega (arith, z, code)))
+          (λ k back at_k worker ne. absurd (back zero_queue)),
+    )
 
 kept_send : (core : Core) (at : ℕ → Option Stream) (seat queue item stream : ℕ) (owners : List Owner) → Agrees core.seats at → IsReached core at
     → role_of core seat ≤ 1 → is_there core queue item ≡ true → whereabouts_code (item_of core queue item).whereabouts ≡ 1 + seat
@@ -490,15 +505,16 @@ kept_send core at seat queue item stream owners a r role there code arm x is =
     let tests = and_parts _ _ (and_parts _ _ (test_of _ 11 1 0 arm)).1 in
     let next : number_in old.part ≡ x.sent = eqb-true _ _ (and_parts _ _ tests.1).0 ∙ a.sent stream ∙ ap sent_of is in
     let sent_here : list_any (is_same_part part) (lists_at (change_at seat (noted (Sent part)) core.seats) seat).sent ≡ true =
-        ap (λ l. list_any (is_same_part part) l.sent) (changed_at seat (noted (Sent part)) core.seats no_seat lt)
-        ∙ any_snoc (is_same_part part) (lists_at core.seats seat).sent part ∙ or_last (list_any (is_same_part part) (lists_at core.seats seat).sent) _ (same_part part) in
-    (agrees_sent core.seats at seat stream x part (number_in old.part) a lt refl is next,
-    kept_tag core at seat queue item stream owners (noted (Sent part)) x (record x { sent = number_in old.part + 1; last_sent = x.last_sent || is_last_in old.part }) new r there is
-    (more_sent core.seats seat part lt) (λ l. refl) refl (λ ne. refl)
-    (λ (z : whereabouts_code old.whereabouts ≡ 0). absurd (omega (arith, z, code)))
-    (λ k back (at_k : whereabouts_code old.whereabouts ≡ 1 + k) worker ne.
-    let same : seat ≡ k = omega (arith, at_k, code) in
-    subst (λ j. list_any (is_same_part part) (lists_at (change_at seat (noted (Sent part)) core.seats) j).sent ≡ true) same sent_here))
+    ap (λ l. list_any (is_same_part part) l.sent) (changed_at seat (noted (Sent part)) core.seats no_seat lt)
+    ∙ any_snoc (is_same_part part) (lists_at core.seats seat).sent part ∙ or_last (list_any (is_same_part part) (lists_at core.seats seat).sent) _ (same_part part) in (
+      agrees_sent core.seats at seat stream x part (number_in old.part) a lt refl is next,
+      kept_tag core at seat queue item stream owners (noted (Sent part)) x (record x { sent = number_in old.part + 1; last_sent = x.last_sent || is_last_in old.part }) new r there is
+          (more_sent core.seats seat part lt) (λ l. refl) refl (λ ne. refl)
+          (λ (z : whereabouts_code old.whereabouts ≡ 0). absurd (omega (arith, z, code)))
+          (λ k back (at_k : whereabouts_code old.whereabouts ≡ 1 + k) worker ne.
+          let same : seat ≡ k = omega (arith, at_k, code) in
+          subst (λ j. list_any (is_same_part part) (lists_at (change_at seat (noted (Sent part)) core.seats) j).sent ≡ true) same sent_here),
+    )
 
 post_known : (core : Core) (at : ℕ → Option Stream) (seat queue item stream : ℕ) → Agrees core.seats at → may_post core seat queue item stream ≡ None → is_some (at stream) ≡ true
 unfolding may_post
@@ -535,8 +551,8 @@ Settled core at seat queue item stream owners e b o =
     let part : Part = part_of stream old in
     let seats = change_at seat (noted (if e then (if b then Cancelled stream else Received part) else (if b then Taken stream else Closed stream))) core.seats in
     let settle : Stream → Stream = λ s. if e
-        then (if b then record s { cancelled = true } else record s { received_last = s.received_last || (s.engine == seat && is_last_in old.part) })
-        else (if b then record s { taken = true; takers = set s.takers seat true } else record s { closed = true }) in
+    then (if b then record s { cancelled = true } else record s { received_last = s.received_last || (s.engine == seat && is_last_in old.part) })
+    else (if b then record s { taken = true; takers = set s.takers seat true } else record s { closed = true }) in
     let after = changed at stream (option_map settle o) in
     Agrees seats after × IsReached (record core { owners = owners; queues = change_at queue (λ q. record q { items = set q.items item new }) core.queues; seats = seats }) after
 
@@ -552,19 +568,23 @@ settled : (core : Core) (at : ℕ → Option Stream) (seat queue item stream : �
     → (e b : Bool) → (e ≡ true → b ≡ true → posted_by seat (at stream) ≡ true)
     → Settled core at seat queue item stream owners e b (Some x)
 settled core at seat queue item stream owners a r lt small there x is true true posted =
-    let own = own_of at seat stream x is (posted_drawn seat (at stream) (posted refl refl)) in
-    (agrees_cancelled core.seats at seat stream x a lt is own,
-    settled_tag core at seat queue item stream owners (noted (Cancelled stream)) x _ r there is (λ l. refl) (λ l. refl))
+    let own = own_of at seat stream x is (posted_drawn seat (at stream) (posted refl refl)) in (
+      agrees_cancelled core.seats at seat stream x a lt is own,
+      settled_tag core at seat queue item stream owners (noted (Cancelled stream)) x _ r there is (λ l. refl) (λ l. refl),
+    )
 settled core at seat queue item stream owners a r lt small there x is true false posted =
-    let part : Part = part_of stream (item_of core queue item) in
-    (agrees_received core.seats at seat stream x part a lt refl is,
-    settled_tag core at seat queue item stream owners (noted (Received part)) x _ r there is (λ l. refl) (λ l. refl))
-settled core at seat queue item stream owners a r lt small there x is false true posted =
-    (agrees_taken core.seats at seat stream x a lt is small,
-    settled_tag core at seat queue item stream owners (noted (Taken stream)) x _ r there is (λ l. refl) (λ l. refl))
-settled core at seat queue item stream owners a r lt small there x is false false posted =
-    (agrees_closed core.seats at seat stream x a lt is,
-    settled_tag core at seat queue item stream owners (noted (Closed stream)) x _ r there is (λ l. refl) (λ l. refl))
+    let part : Part = part_of stream (item_of core queue item) in (
+      agrees_received core.seats at seat stream x part a lt refl is,
+      settled_tag core at seat queue item stream owners (noted (Received part)) x _ r there is (λ l. refl) (λ l. refl),
+    )
+settled core at seat queue item stream owners a r lt small there x is false true posted = (
+  agrees_taken core.seats at seat stream x a lt is small,
+  settled_tag core at seat queue item stream owners (noted (Taken stream)) x _ r there is (λ l. refl) (λ l. refl),
+)
+settled core at seat queue item stream owners a r lt small there x is false false posted = (
+  agrees_closed core.seats at seat stream x a lt is,
+  settled_tag core at seat queue item stream owners (noted (Closed stream)) x _ r there is (λ l. refl) (λ l. refl),
+)
 
 -- an engine that settles an item of the line posted its stream
 settle_posted : (core : Core) (at : ℕ → Option Stream) (seat queue item stream : ℕ) → Agrees core.seats at → may_settle core seat queue item stream ≡ None

@@ -1,14 +1,13 @@
 -- The check byte by byte is the check line by line.
-use Rattle.std.proofs.Common.{◌≡◌, ◌≢◌, ◌∙◌, ◌⊎◌, ⊎_elim, ℕ, zero, suc, ◌+◌, ◌<◌, ◌≤◌, ◌==◌, ◌||◌, nat_le, Bool, true, false, if◌then◌else◌, List, [], ◌∷◌, ◌++◌, length, refl, sym, ap, subst, arith, append_assoc, length-append}
+use Rattle.std.proofs.Common.{◌≡◌, ◌≢◌, ◌∙◌, ⊎_elim, ℕ, ◌+◌, ◌<◌, ◌≤◌, ◌==◌, ◌||◌, Bool, true, false, List, [], ◌∷◌, ◌++◌, length, refl, sym, ap, subst, arith, append_assoc, length-append}
 use Rattle.std.specs.List.{list_any}
 use Rattle.std.proofs.lemmas.List.{append-nil}
-use Rattle.std.proofs.lemmas.Bool.{cases_eq, cases_lt, eq-eqb, ne_eqb, le-leb, lt-leb}
+use Rattle.std.proofs.lemmas.Bool.{cases_eq, cases_lt, ne_eqb, le-leb, lt-leb}
 use Rattle.trace_check.specs.Bytes.{after_byte, after_bytes}
-use Rattle.trace_check.specs.Verdicts.{Judged, Line, Passed, Standing, and_then, before_lines, beginning, decided, decides, going, lines_of, on_line, on_rest, on_shape, passes, standing_after, standing_of}
+use Rattle.trace_check.specs.Verdicts.{Judged, Line, Passed, and_then, before_lines, beginning, decided, decides, going, lines_of, on_line, on_rest, passes, standing_after, standing_of}
 use Rattle.trace_check.specs.declared.verdict.Verdict.TheVariants.{Broken}
 use Rattle.trace_check.proofs.SeatNotes.{any_snoc}
 use Rattle.trace_check.proofs.Stood.{after_both, decided_stays}
-use Rattle.trace_check.specs.Lines.{shape_of}
 
 -- no byte of the text is LF
 abbrev pub has_end : List ℕ → Bool

@@ -1,5 +1,5 @@
 -- What is opened shows the opened core.
-use Rattle.std.proofs.Common.{◌≡◌, ◌≢◌, ◌∙◌, ◌⊎◌, ⊎_elim, ℕ, zero, suc, ◌+◌, ◌<◌, ◌≤◌, ◌==◌, ◌&&◌, Bool, true, false, List, [], ◌∷◌, ◌++◌, length, get_or, replicate, refl, sym, ap, arith}
+use Rattle.std.proofs.Common.{◌≡◌, ◌≢◌, ◌∙◌, ⊎_elim, ℕ, zero, suc, ◌+◌, ◌≤◌, ◌==◌, ◌&&◌, Bool, false, List, [], ◌∷◌, ◌++◌, length, get_or, replicate, refl, sym, ap, arith}
 use Rattle.std.specs.Prelude.{Option, Some, None, is_some, count_by}
 use Rattle.std.specs.List.{list_any}
 use Rattle.std.proofs.lemmas.Bool.{cases_eq, eq-eqb, ne_eqb}
@@ -7,14 +7,12 @@ use Rattle.std.proofs.lemmas.List.{length-replicate}
 use Rattle.trace_check.specs.Shows.{Agrees, IsReached, lists_at, is_last_of, times_in}
 use Rattle.trace_check.specs.declared.streams.Stream.{Stream}
 use Rattle.unit_model.specs.Conditions.{has_stream}
-use Rattle.unit_model.specs.Core.{blank, item_of, no_queue, no_seat, queue_of, whereabouts_code}
+use Rattle.unit_model.specs.Core.{blank, item_of, no_queue, no_seat, queue_of}
 use Rattle.unit_model.specs.Opening.{first_entries, fresh_queue, opened_core}
 use Rattle.unit_model.specs.Shapes.{IsValid}
 use Rattle.unit_model.specs.Weights.{weigh, below, one_if}
 use Rattle.unit_model.specs.declared.machine.Entry.{Entry}
-use Rattle.unit_model.specs.declared.machine.Item.{Item}
 use Rattle.unit_model.specs.declared.machine.Queue.{Queue}
-use Rattle.unit_model.specs.declared.machine.Seat.{Seat as SeatLists}
 use Rattle.unit_model.specs.declared.shape.Shape.{Shape}
 
 -- a list of the same has it everywhere, and so does what stands past it

@@ -1,18 +1,15 @@
 -- What holds of a core that steps have led to holds after one change more.
-use Rattle.std.proofs.Common.{◌≡◌, ◌≢◌, ◌∙◌, ◌⊎◌, ⊎_elim, ℕ, zero, suc, ◌+◌, ◌^◌, ◌<◌, ◌≤◌, ◌==◌, ◌&&◌, ◌||◌, nat_lt, Bool, true, false, if◌then◌else◌, List, [], ◌∷◌, ◌++◌, drop, length, get_or, set, refl, sym, ap, subst, arith}
+use Rattle.std.proofs.Common.{◌≡◌, ◌≢◌, ◌∙◌, ⊎_elim, ℕ, zero, suc, ◌+◌, ◌^◌, ◌<◌, ◌≤◌, ◌==◌, ◌&&◌, Bool, true, false, List, [], ◌∷◌, length, get_or, set, refl, sym, ap, subst, arith}
 use Rattle.std.specs.Prelude.{Option, Some, None, is_some, count_by}
 use Rattle.std.specs.List.{list_any}
-use Rattle.std.proofs.lemmas.Bool.{cases_eq, eq-eqb, ne_eqb, eqb-true, eqb-false, ltb-true}
+use Rattle.std.proofs.lemmas.Bool.{cases_eq, ltb-true}
 use Rattle.std.proofs.lemmas.List.{get_or-set_same, get_or-set_other, length-set}
 use Rattle.trace_check.specs.Shows.{IsReached, lists_at, times_in}
 use Rattle.trace_check.specs.declared.streams.Stream.{Stream}
-use Rattle.trace_check.proofs.SeatNotes.{changed_at, unchanged_at, length-changed}
 use Rattle.unit_model.specs.Conditions.{is_same_part, part_of, is_there}
 use Rattle.unit_model.specs.Core.{blank, item_of, no_queue, queue_of, role_of, whereabouts_code}
-use Rattle.unit_model.specs.Lists.{change_at}
 use Rattle.unit_model.specs.Weights.{weigh, below, one_if}
 use Rattle.unit_model.specs.declared.machine.Core.{Core}
-use Rattle.unit_model.specs.declared.machine.Entry.{Entry}
 use Rattle.unit_model.specs.declared.machine.Item.{Item}
 use Rattle.unit_model.specs.declared.machine.Owner.{Owner}
 use Rattle.unit_model.specs.declared.machine.Part.{Part}
@@ -102,9 +99,9 @@ pub reached_item : (core : Core) (at after : ℕ → Option Stream) (owners : Li
 reached_item core at after owners seats queues queue item new changed r same still drawn known there here items apart meets =
     let core' : Core = record core { owners = owners; queues = queues; seats = seats } in
     let new_item : item_of core' queue item ≡ new =
-        rw (here, items) (get_or-set_same (queue_of core queue).items item new blank there) in
+    rw (here, items) (get_or-set_same (queue_of core queue).items item new blank there) in
     let old_item : (i : ℕ) → i ≢ item → item_of core' queue i ≡ item_of core queue i =
-        λ i ne. rw (here, items) (get_or-set_other (queue_of core queue).items item i new blank ne) in
+    λ i ne. rw (here, items) (get_or-set_other (queue_of core queue).items item i new blank ne) in
     let elsewhere : (q : ℕ) → q ≢ queue → (i : ℕ) → item_of core' q i ≡ item_of core q i = λ q ne i. rw (apart q ne) refl in
     let P : (ℕ → ℕ → Type 0) → Type 0 = λ Q. (q i : ℕ) → Q q i in
     record {

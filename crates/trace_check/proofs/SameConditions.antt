@@ -1,20 +1,19 @@
 -- The conditions of a step, read in the records of streams, are those of the core that is shown.
-use Rattle.std.proofs.Common.{◌≡◌, ◌≢◌, ◌∙◌, ℕ, zero, suc, ◌+◌, ◌-◌, ◌≤◌, ◌==◌, ◌&&◌, ◌||◌, not, nat_le, Bool, true, false, if◌then◌else◌, List, [], ◌∷◌, refl, sym, ap, subst, arith}
+use Rattle.std.proofs.Common.{◌≡◌, ◌≢◌, ◌∙◌, ℕ, zero, suc, ◌+◌, ◌-◌, ◌≤◌, ◌==◌, ◌&&◌, ◌||◌, not, Bool, true, false, if◌then◌else◌, [], refl, sym, ap, subst, arith}
 use Rattle.std.specs.Prelude.{Option, Some, None}
 use Rattle.std.specs.Option.{option_or}
 use Rattle.std.specs.List.{list_any}
 use Rattle.std.proofs.lemmas.Bool.{and_parts, eqb-true, eqb-false, leb-true}
 use Rattle.trace_check.specs.Shows.{Agrees, IsReached}
-use Rattle.trace_check.specs.Streams.{conditions_known, drawn_by, first_unmet_known, may_abandon_known, may_arm_known, may_post_known, may_send_known, may_settle_known, may_win_known, posted_by}
+use Rattle.trace_check.specs.Streams.{conditions_known, drawn_by, first_unmet_known, may_abandon_known, may_arm_known, may_post_known, may_send_known, may_settle_known, posted_by}
 use Rattle.trace_check.specs.declared.streams.Stream.{Stream}
 use Rattle.trace_check.proofs.MetConditions.{test_of}
-use Rattle.unit_model.specs.Conditions.{all_have_owner, conditions_of, first_of, first_unmet, fits_side, has_owner, has_stream, has_tag, holds, is_either, is_engine, is_first_free_item, is_first_free_place, is_first_line_item, is_first_line_place, is_in_segments, is_next_free_place, is_next_line_place, is_next_stream, is_open, is_same_part, is_tagged, is_worker, may_abandon, may_arm, may_empty, may_fill, may_open, may_post, may_send, may_settle, may_use, may_win_part, may_win_request, part_of, run_has_owner, seat_holds, unless}
+use Rattle.unit_model.specs.Conditions.{all_have_owner, conditions_of, first_unmet, fits_side, has_owner, has_tag, holds, is_either, is_engine, is_first_free_item, is_first_free_place, is_first_line_item, is_first_line_place, is_in_segments, is_next_free_place, is_next_line_place, is_next_stream, is_open, is_same_part, is_tagged, is_worker, may_abandon, may_arm, may_empty, may_fill, may_open, may_post, may_send, may_settle, may_use, may_win_part, may_win_request, part_of, run_has_owner, seat_holds, unless}
 use Rattle.unit_model.specs.Core.{item_of, role_of, seat_of, whereabouts_code, chunk_number}
 use Rattle.unit_model.specs.Runs.{chunks_for}
 use Rattle.unit_model.specs.declared.machine.Core.{Core}
 use Rattle.unit_model.specs.declared.machine.Step.{Step}
 use Rattle.unit_model.specs.declared.machine.Step.TheVariants.{Draw, Claim, Release, Open, GetItem, SetRun, SetPart, Arm, Push, Pop, Settle, GiveItem, Abandon}
-use Rattle.unit_model.specs.declared.machine.Unmet.{Unmet}
 use Rattle.unit_model.specs.declared.runs.Run.{Run}
 
 abbrev pub frame_of : Core → Core

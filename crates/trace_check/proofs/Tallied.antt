@@ -1,11 +1,11 @@
 -- The numbers of a core, counted in the records of streams.
-use Rattle.std.proofs.Common.{◌≡◌, ◌∙◌, ◌⊎◌, ⊎_elim, ℕ, zero, suc, ◌+◌, ◌<◌, ◌≤◌, ◌==◌, ◌&&◌, ◌||◌, not, Bool, true, false, cond, List, [], ◌∷◌, ◌++◌, length, refl, sym, ap, arith}
+use Rattle.std.proofs.Common.{◌≡◌, ◌∙◌, ℕ, zero, suc, ◌+◌, ◌≤◌, ◌==◌, ◌&&◌, ◌||◌, not, Bool, true, false, cond, List, [], ◌∷◌, length, refl, sym, ap, arith}
 use Rattle.std.specs.Prelude.{Option, Some, None, is_some, count_by}
 use Rattle.std.specs.List.{list_any}
 use Rattle.std.proofs.lemmas.Bool.{eq-eqb}
 use Rattle.std.proofs.lemmas.List.Sums.{sum_by-cons}
 use Rattle.trace_check.specs.Shows.{Agrees, IsReached, lists_at, is_last_of}
-use Rattle.trace_check.specs.Streams.{abandoned_by, cancelled_by, drawn_by, known, posted_by}
+use Rattle.trace_check.specs.Streams.{drawn_by, known}
 use Rattle.trace_check.specs.Outcomes.{has_outcome}
 use Rattle.trace_check.specs.Verdicts.{is_abandoned, is_accepted, is_cancelled, is_left_open, is_refused, streams_that}
 use Rattle.trace_check.specs.declared.streams.Stream.{Stream}
@@ -13,7 +13,6 @@ use Rattle.trace_check.specs.declared.verdict.Outcome.{Outcome}
 use Rattle.trace_check.specs.declared.verdict.Outcome.TheVariants.{Drawn, Accepted, Cancelled, Abandoned, Refused, LeftOpen}
 use Rattle.trace_check.proofs.Reached.{below_same}
 use Rattle.unit_model.specs.Conditions.{has_stream}
-use Rattle.unit_model.specs.Core.{no_seat}
 use Rattle.unit_model.specs.Weights.{weigh, below, one_if}
 use Rattle.unit_model.specs.declared.machine.Core.{Core}
 use Rattle.unit_model.specs.declared.machine.Seat.{Seat as SeatLists}

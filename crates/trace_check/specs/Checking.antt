@@ -1,5 +1,5 @@
 -- What is said of a checker.
-use Rattle.std.specs.Prelude.{◌≡◌, ℕ, Bool, true, false, List, length}
+use Rattle.std.specs.Prelude.{◌≡◌, ℕ, Bool, false, List, length}
 use Rattle.trace_check.specs.Reading.{Stands}
 use Rattle.trace_check.specs.Verdicts.{standing_of}
 use Rattle.trace_check.specs.declared.checker.Checker.{Checker}

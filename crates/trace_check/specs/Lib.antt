@@ -1,11 +1,14 @@
 pub mod Bytes
 pub mod Checking
 pub mod Counted
+pub mod Hands
 pub mod Lines
 pub mod Numbers
 pub mod Outcomes
 pub mod Owners
+pub mod ReadBack
 pub mod Reading
 pub mod Shows
 pub mod Streams
+pub mod Traces
 pub mod Verdicts

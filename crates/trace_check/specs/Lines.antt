@@ -1,5 +1,5 @@
 -- What the lines of a trace say. A line is given here without its LF.
-use Rattle.std.specs.Prelude.{ℕ, ◌-◌, ◌^◌, List, [], ◌∷◌, Option, Some, None, codes, bytes_eq, if◌then◌else◌}
+use Rattle.std.specs.Prelude.{ℕ, ◌-◌, ◌^◌, List, Option, Some, None, codes, bytes_eq, if◌then◌else◌}
 use Rattle.trace_check.specs.Numbers.{◌>>=◌, cut, number_of, first_number}
 use Rattle.trace_check.specs.declared.line.Kind.{Kind}
 use Rattle.trace_check.specs.declared.line.Kind.TheVariants as kind

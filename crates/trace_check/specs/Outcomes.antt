@@ -1,5 +1,5 @@
 -- What became of a stream, by its record.
-use Rattle.std.specs.Prelude.{ℕ, ◌&&◌, ◌||◌, not, Bool, true}
+use Rattle.std.specs.Prelude.{◌&&◌, ◌||◌, not, Bool, true}
 use Rattle.trace_check.specs.declared.streams.Stream.{Stream}
 use Rattle.trace_check.specs.declared.verdict.Outcome.{Outcome}
 use Rattle.trace_check.specs.declared.verdict.Outcome.TheVariants.{Drawn, Accepted, Cancelled, Abandoned, Refused, LeftOpen}

@@ -1,5 +1,5 @@
 -- When a check in pieces stands where the check of all its bytes does.
-use Rattle.std.specs.Prelude.{◌≡◌, ℕ, ◌+◌, ◌≤◌, List, [], Option, Some, None}
+use Rattle.std.specs.Prelude.{◌≡◌, ℕ, List, [], Option, Some, None}
 use Rattle.trace_check.specs.Shows.{Shows}
 use Rattle.trace_check.specs.Verdicts.{Judged, Passed, Standing, passes, decides, going, decided}
 use Rattle.trace_check.specs.declared.reading.Reading.{Reading}

@@ -7,7 +7,7 @@ use Rattle.unit_model.specs.Effects.{after_step}
 use Rattle.unit_model.specs.declared.machine.Core.{Core}
 use Rattle.unit_model.specs.declared.machine.Item.{Item}
 use Rattle.unit_model.specs.declared.machine.Step.{Step}
-use Rattle.unit_model.specs.declared.machine.Step.TheVariants.{Draw, Claim, Release, Open, GetItem, SetRun, SetPart, Arm, Push, Pop, Settle, GiveItem, Abandon}
+use Rattle.unit_model.specs.declared.machine.Step.TheVariants.{Draw, Arm, Settle, Abandon}
 use Rattle.unit_model.specs.declared.machine.Unmet.{Unmet}
 
 -- ---- what is known of a stream, of which there is a record once it is drawn

@@ -3,7 +3,7 @@ ghost use Rattle.std.specs.Prelude.{if◌then◌else◌, ◌≡◌, ◌+◌, ◌
 ghost use Rattle.unit_model.specs.Conditions.{all_have_owner, conditions_of, first_of, first_unmet, fits_side, has_owner, has_tag, is_either, is_engine, is_first_free_item, is_first_free_place, is_first_line_item, is_first_line_place, is_in_segments, is_next_free_place, is_next_line_place, is_next_stream, is_open, is_tagged, is_worker, may_empty, may_fill, may_open, may_use, run_has_owner, seat_holds, unless};
 
 use crate::frame::{Frame, chunk_number};
-use crate::lane::{PAST_ITEMS, whereabouts_code};
+use crate::items::{PAST_ITEMS, whereabouts_code};
 use unit_model::{Run, Step, Unmet};
 
 const CHUNKS: u64 = 640;

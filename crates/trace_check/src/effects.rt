@@ -30,15 +30,16 @@ fn keep(owners: &mut BTreeMap<u64, Owner>, number: u64, owner: Owner) -> Result<
 }
 
 impl Frame {
-    /// Writes an item anew, where there is one.
+    /// Writes an item anew, where there is one. Fails for want of memory alone.
     #[tactic(auto, using(crate::proofs::Changes::changed_here, crate::proofs::Changes::changed_past), unfolding(unit_model::specs::Effects::with_item))]
-    pub(crate) fn set_item(&mut self, queue: u32, item: u32, new: Item)
-        ensures { self.new ≡ with_item queue item new self.old }
+    pub(crate) fn set_item(&mut self, queue: u32, item: u32, new: Item) -> Result<(), AllocError>
+        ensures { OnOk result (self.new ≡ with_item queue item new self.old) }
     {
-        if (queue as usize) < self.queues.len() {
-            let queue = &mut self.queues[queue as usize];
-            queue.set_item(item, new);
+        if queue as usize >= self.queues.len() {
+            return Ok(());
         }
+        let queue = &mut self.queues[queue as usize];
+        queue.set_item(item, new)
     }
 
     #[tactic(auto, using(crate::proofs::Changes::changed_here, crate::proofs::Changes::changed_past), unfolding(unit_model::specs::Effects::without_first_free))]

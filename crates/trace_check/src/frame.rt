@@ -3,7 +3,8 @@ ghost use Rattle.std.specs.Prelude.{if◌then◌else◌, ◌≡◌, ◌+◌, ◌
 ghost use Rattle.unit_model.specs.Conditions.{holds, holds_tagged, is_there};
 ghost use Rattle.unit_model.specs.Core.{chunk_number, first_item, first_place, item_of, owner_code, owner_of, queue_of, role_of, side_end, side_opened, side_start, whereabouts_code};
 
-use crate::lane::{BLANK, Lane, PAST_ITEMS, whereabouts_code};
+use crate::items::{BLANK, PAST_ITEMS, whereabouts_code};
+use crate::lane::Lane;
 use std::alloc::{AllocError, Global};
 use std::collections::BTreeMap;
 use std::marker::Model;

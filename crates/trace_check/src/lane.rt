@@ -1,29 +1,14 @@
 //! A queue whose lists give and take at their ends.
-ghost use Rattle.std.specs.Prelude.{◌≡◌, ◌<◌, ◌+◌, ◌^◌, ◌∷◌, ◌++◌, [], OnOk, IfOk, drop, get_or, length, nat_lt, slice_set};
 ghost use Rattle.std.specs.List.{list_any};
+ghost use Rattle.std.specs.Prelude.{◌≡◌, ◌<◌, ◌+◌, ◌^◌, ◌∷◌, ◌++◌, [], OnOk, IfOk, drop, get_or, length, nat_lt, slice_set, ◌==◌, ◌&&◌, replicate};
 ghost use Rattle.unit_model.specs.Core.{blank, first_item, first_place, whereabouts_code};
-ghost use Rattle.unit_model.specs.Opening.{fresh_queue};
+ghost use Rattle.unit_model.specs.Opening.{fresh_queue, first_entries};
 
+use crate::items::{Items, PAST_ITEMS};
 use std::alloc::{AllocError, Global};
 use std::collections::VecDeque;
 use std::marker::Model;
-use unit_model::{Entry, Item, Run, Whereabouts};
-
-/// Behind every item's number.
-pub(crate) const PAST_ITEMS: u64 = 1 << 32;
-
-/// An item that was never used.
-pub(crate) const BLANK: Item = Item {
-    tag: 0,
-    stream: 0,
-    run: Run {
-        segment: 0,
-        chunk: 0,
-        size: 0,
-    },
-    part: 0,
-    whereabouts: Whereabouts::InFreeList,
-};
+use unit_model::{Entry, Item};
 
 /// A queue. Contracts see its lists.
 #[derive(Debug, Drop)]
@@ -32,7 +17,7 @@ pub(crate) struct Lane {
     next_free: u64,
     line: VecDeque<Entry>,
     next_line: u64,
-    items: Vec<Item>,
+    items: Items,
 }
 
 impl Model for Lane {
@@ -40,18 +25,7 @@ impl Model for Lane {
 
     ghost Value = { Queue };
 
-    ghost view = { λ l. record { free = l.free.items; next_free = l.next_free; line = l.line.items; next_line = l.next_line; items = l.items.items } };
-}
-
-/// Where an item is, as a number.
-pub(crate) fn whereabouts_code(whereabouts: Whereabouts) -> u64
-    ensures { result ≡ whereabouts_code whereabouts }
-{
-    match whereabouts {
-        Whereabouts::InFreeList => 0,
-        Whereabouts::InLine => PAST_ITEMS,
-        Whereabouts::WithSeat(seat) => 1 + seat as u64,
-    }
+    ghost view = { λ l. record { free = l.free.items; next_free = l.next_free; line = l.line.items; next_line = l.next_line; items = l.items } };
 }
 
 fn first_place(entries: &VecDeque<Entry>, next: u64) -> u64
@@ -80,13 +54,6 @@ fn push(entries: &mut VecDeque<Entry>, entry: Entry) -> Result<(), AllocError>
         Err(_) => Err(AllocError),
     }
 }
-
-fn has_held(code: u64, tag: u64, items: &[Item]) -> bool
-    ensures { result ≡ list_any (λ item. whereabouts_code item.whereabouts == code && item.tag == tag) items.now }
-{
-    items.iter().any(|item| whereabouts_code(item.whereabouts) == code && item.tag == tag)
-}
-ghost use Rattle.std.specs.Prelude.{◌==◌, ◌&&◌};
 
 impl Lane {
     pub(crate) fn free_place(&self) -> u64
@@ -128,31 +95,28 @@ impl Lane {
     pub(crate) fn has_item(&self, item: u32) -> bool
         ensures { result ≡ nat_lt item (length self.now.items) }
     {
-        (item as usize) < self.items.len()
+        self.items.has(item)
     }
 
     pub(crate) fn item(&self, item: u32) -> Item
         ensures { result ≡ get_or self.now.items item blank }
     {
-        if item as usize >= self.items.len() {
-            return BLANK;
-        }
-        self.items[item as usize]
+        self.items.get(item)
     }
 
-    /// Whether an item of this tag is where the code says.
+    /// Whether an item of this tag is where the code says, which isn't that of free items.
     pub(crate) fn has_held(&self, code: u64, tag: u64) -> bool
+        requires { 0 < code }
         ensures { result ≡ list_any (λ item. whereabouts_code item.whereabouts == code && item.tag == tag) self.now.items }
     {
-        has_held(code, tag, self.items.as_slice())
+        self.items.some_at(code, tag)
     }
 
-    pub(crate) fn set_item(&mut self, item: u32, new: Item)
-        ensures { self.new ≡ record self.old { items = slice_set self.old.items item new } }
+    /// Fails for want of memory alone.
+    pub(crate) fn set_item(&mut self, item: u32, new: Item) -> Result<(), AllocError>
+        ensures { OnOk result (self.new ≡ record self.old { items = slice_set self.old.items item new }) }
     {
-        if (item as usize) < self.items.len() {
-            self.items[item as usize] = new;
-        }
+        self.items.set(item, new)
     }
 
     pub(crate) fn drop_first_free(&mut self)
@@ -197,12 +161,10 @@ impl Lane {
             next_free: start + items as u64,
             line: VecDeque::new(alloc),
             next_line: start,
-            items: fresh_items(alloc, items as usize)?,
+            items: Items::fresh(alloc, items as usize)?,
         })
     }
 }
-ghost use Rattle.unit_model.specs.Opening.{first_entries};
-ghost use Rattle.std.specs.Prelude.{replicate};
 
 #[tactic(auto, using(crate::proofs::Entries::one_entry_more))]
 fn first_entries(alloc: Global, start: u64, items: u32) -> Result<VecDeque<Entry>, AllocError>
@@ -215,12 +177,4 @@ fn first_entries(alloc: Global, start: u64, items: u32) -> Result<VecDeque<Entry
         push(&mut entries, Entry { place, item })?;
     }
     Ok(entries)
-}
-
-fn fresh_items(alloc: Global, count: usize) -> Result<Vec<Item>, AllocError>
-    ensures { IfOk result (λ items. items.items ≡ replicate count blank) }
-{
-    let mut items = Vec::new(alloc);
-    items.resize(count, BLANK)?;
-    Ok(items)
 }

@@ -5,7 +5,9 @@ mod checker;
 mod conditions;
 mod effects;
 mod frame;
+mod items;
 mod lane;
+mod laws;
 mod line;
 mod machine;
 mod number;
@@ -16,6 +18,7 @@ mod tally;
 mod verdict;
 
 pub use checker::Checker;
+pub use laws::{legal_where_steps_run, lines_are_read_back};
 pub use verdict::Verdict;
 
 #[cfg(test)]

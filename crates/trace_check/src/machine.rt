@@ -1,13 +1,19 @@
 //! The core of a trace, kept in maps.
-ghost use Rattle.std.specs.Prelude.{◌≡◌, ◌≢◌, ◌==◌, if◌then◌else◌, ◌<◌, ◌^◌, ◌-◌, ℕ, IfOk, OnOk, Option, Some, None};
 ghost use Rattle.std.specs.BTreeMap.{get};
 ghost use Rattle.std.specs.Ordering.{nat_cmp};
+ghost use Rattle.std.specs.Prelude.{◌≡◌, ◌≢◌, ◌==◌, if◌then◌else◌, ◌<◌, ◌^◌, ◌-◌, ℕ, IfOk, OnOk, Option, Some, None};
+ghost use Rattle.trace_check.specs.Shows.{Shows};
 ghost use Rattle.trace_check.specs.Streams.{conditions_known, first_unmet_known, may_abandon_known, may_arm_known, may_post_known, may_send_known, may_settle_known, may_win_known, stream_after};
 ghost use Rattle.unit_model.specs.Conditions.{conditions_of, first_unmet};
+ghost use Rattle.unit_model.specs.Opening.{opened_core};
+ghost use Rattle.unit_model.specs.Shapes.{IsValid};
 
 use crate::conditions::{first_of, unless};
 use crate::frame::Frame;
-use crate::streams::{Stream, abandoned_by, cancelled_by, drawn_by, is_closed, is_last_sent, is_received, is_taken, posted_by, sent_of, taken_by};
+use crate::streams::{
+    Stream, abandoned_by, cancelled_by, drawn_by, is_closed, is_last_sent, is_received, is_taken,
+    posted_by, sent_of, taken_by,
+};
 use std::alloc::{AllocError, Global};
 use std::collections::BTreeMap;
 use unit_model::{Shape, Step, Unmet};
@@ -31,9 +37,6 @@ impl Machine {
         })
     }
 }
-ghost use Rattle.trace_check.specs.Shows.{Shows};
-ghost use Rattle.unit_model.specs.Opening.{opened_core};
-ghost use Rattle.unit_model.specs.Shapes.{IsValid};
 
 // The eleventh condition.
 impl Machine {

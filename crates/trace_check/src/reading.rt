@@ -1,9 +1,11 @@
 //! The lines of a trace, taken byte by byte.
-ghost use Rattle.std.specs.Prelude.{◌≡◌, ◌+◌, ◌<◌, ◌≤◌, ◌^◌, ℕ, List, IfOk, OnOk, Some, None, length};
-ghost use Rattle.trace_check.specs.Counted.{IsCounted};
+ghost use Rattle.std.specs.Prelude.{◌≡◌, ◌+◌, ◌<◌, ◌≤◌, ◌^◌, ℕ, List, IfOk, OnOk, Some, None, length, IsTrue, [], ◌++◌};
+ghost use Rattle.trace_check.specs.Bytes.{after_byte, after_bytes};
+ghost use Rattle.trace_check.specs.Counted.{IsCounted, CountsOn};
 ghost use Rattle.trace_check.specs.Reading.{Follows, Judges, Stands};
-ghost use Rattle.trace_check.specs.Verdicts.{Passed, is_valid, on_line, on_shape, on_step, pass, plain_shape};
+ghost use Rattle.trace_check.specs.Verdicts.{Passed, is_valid, on_line, on_shape, on_step, pass, plain_shape, beginning, going, on_rest, verdict_at, standing_of};
 ghost use Rattle.unit_model.specs.Opening.{opened_core};
+ghost use Rattle.unit_model.specs.Shapes.{IsValid};
 ghost use Rattle.unit_model.specs.declared.machine.Core.{Core};
 
 use crate::line::{shape_of, step_of};
@@ -32,8 +34,6 @@ fn is_valid(shape: &Shape) -> bool
 {
     shape.valid()
 }
-ghost use Rattle.std.specs.Prelude.{IsTrue};
-ghost use Rattle.unit_model.specs.Shapes.{IsValid};
 
 impl Reading {
     /// Before the first line, with the plain shape. Fails for want of memory alone.
@@ -64,8 +64,6 @@ impl Reading {
         self.text.clear();
     }
 }
-ghost use Rattle.std.specs.Prelude.{[]};
-ghost use Rattle.trace_check.specs.Verdicts.{beginning};
 
 impl Reading {
     // A line that says a step.
@@ -154,7 +152,11 @@ impl Reading {
     }
 
     /// Takes the bytes in turn, until the verdict is decided. Fails for want of memory alone.
-    pub(crate) fn take(&mut self, alloc: Global, piece: &[u8]) -> Result<Option<Verdict>, AllocError>
+    pub(crate) fn take(
+        &mut self,
+        alloc: Global,
+        piece: &[u8],
+    ) -> Result<Option<Verdict>, AllocError>
         requires counted { (bytes : ℕ) × IsCounted self.old bytes × (bytes + length piece.now < 2 ^ 64) }
         ensures stands { IfOk result (λ verdict. (at : Passed) (text : List ℕ) → Follows at text self.old → Stands (after_bytes (going at text) piece.now) verdict self.new) }
         ensures counted { (bytes : ℕ) → IsCounted self.old bytes → IsCounted self.new (bytes + length piece.now) }
@@ -168,9 +170,6 @@ impl Reading {
         Ok(None)
     }
 }
-ghost use Rattle.trace_check.specs.Bytes.{after_byte, after_bytes};
-ghost use Rattle.trace_check.specs.Counted.{CountsOn};
-ghost use Rattle.trace_check.specs.Verdicts.{going, on_rest};
 
 impl Reading {
     /// The verdict where no more bytes come. It takes no memory.
@@ -194,11 +193,15 @@ impl Reading {
         }
     }
 }
-ghost use Rattle.trace_check.specs.Verdicts.{verdict_at};
 
 impl Reading {
     /// Takes the bytes in turn, given the verdict where it is decided, until it is. Fails for want of memory alone.
-    pub(crate) fn go_on(&mut self, alloc: Global, verdict: Option<Verdict>, piece: &[u8]) -> Result<Option<Verdict>, AllocError>
+    pub(crate) fn go_on(
+        &mut self,
+        alloc: Global,
+        verdict: Option<Verdict>,
+        piece: &[u8],
+    ) -> Result<Option<Verdict>, AllocError>
         requires counted { (bytes : ℕ) × IsCounted self.old bytes × (bytes + length piece.now < 2 ^ 64) }
         ensures stands { IfOk result (λ after. (bytes : List ℕ) → Stands (standing_of bytes) verdict self.old → Stands (standing_of (bytes ++ piece.now)) after self.new) }
         ensures counted { (bytes : ℕ) → IsCounted self.old bytes → IsCounted self.new (bytes + length piece.now) }
@@ -210,8 +213,6 @@ impl Reading {
         Ok(after)
     }
 }
-ghost use Rattle.std.specs.Prelude.{◌++◌};
-ghost use Rattle.trace_check.specs.Verdicts.{standing_of};
 
 fn plain_shape() -> Shape
     ensures value { result ≡ plain_shape }

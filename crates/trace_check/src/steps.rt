@@ -1,11 +1,13 @@
 //! What the steps do.
-ghost use Rattle.std.specs.Prelude.{◌≡◌, ◌==◌, if◌then◌else◌, ◌+◌, ◌<◌, ◌≤◌, ◌^◌, ℕ, IfOk, IfSome, OnOk, Option, Some, None, option_map, [], ◌∷◌};
 ghost use Rattle.std.specs.BTreeMap.{get};
 ghost use Rattle.std.specs.Ordering.{nat_cmp};
+ghost use Rattle.std.specs.Prelude.{◌≡◌, ◌==◌, if◌then◌else◌, ◌+◌, ◌<◌, ◌≤◌, ◌^◌, ℕ, IfOk, IfSome, OnOk, Option, Some, None, option_map, [], ◌∷◌};
+ghost use Rattle.trace_check.specs.Shows.{Shows};
 ghost use Rattle.trace_check.specs.Streams.{abandoned_stream, armed_stream, first_unmet_known, frame_after, settled_stream, stream_after};
 ghost use Rattle.unit_model.specs.Conditions.{first_unmet};
 ghost use Rattle.unit_model.specs.Core.{item_of};
-ghost use Rattle.unit_model.specs.Effects.{with_free, with_in_line, with_item, with_opened, without_first_free, without_first_in_line};
+ghost use Rattle.unit_model.specs.Effects.{with_free, with_in_line, with_item, with_opened, without_first_free, without_first_in_line, after_step};
+ghost use Rattle.unit_model.specs.declared.machine.Core.{Core};
 
 use crate::frame::{Frame, chunk_number};
 use crate::machine::Machine;
@@ -16,8 +18,8 @@ use unit_model::{Entry, Item, Owner, Step, Unmet, Whereabouts};
 
 // What the steps do to a frame.
 impl Frame {
-    pub(crate) fn get_item(&mut self, seat: u32, queue: u32, item: u32)
-        ensures { self.new ≡ with_item queue item (record (item_of self.old queue item) { whereabouts = Whereabouts.WithSeat seat }) (without_first_free queue self.old) }
+    pub(crate) fn get_item(&mut self, seat: u32, queue: u32, item: u32) -> Result<(), AllocError>
+        ensures { OnOk result (self.new ≡ with_item queue item (record (item_of self.old queue item) { whereabouts = Whereabouts.WithSeat seat }) (without_first_free queue self.old)) }
     {
         let old = self.item_of(queue, item);
         self.drop_first_free(queue);
@@ -25,11 +27,11 @@ impl Frame {
             whereabouts: Whereabouts::WithSeat(seat),
             ..old
         };
-        self.set_item(queue, item, held);
+        self.set_item(queue, item, held)
     }
 
-    pub(crate) fn pop(&mut self, seat: u32, queue: u32, item: u32)
-        ensures { self.new ≡ with_item queue item (record (item_of self.old queue item) { whereabouts = Whereabouts.WithSeat seat }) (without_first_in_line queue self.old) }
+    pub(crate) fn pop(&mut self, seat: u32, queue: u32, item: u32) -> Result<(), AllocError>
+        ensures { OnOk result (self.new ≡ with_item queue item (record (item_of self.old queue item) { whereabouts = Whereabouts.WithSeat seat }) (without_first_in_line queue self.old)) }
     {
         let old = self.item_of(queue, item);
         self.drop_first_in_line(queue);
@@ -37,7 +39,7 @@ impl Frame {
             whereabouts: Whereabouts::WithSeat(seat),
             ..old
         };
-        self.set_item(queue, item, held);
+        self.set_item(queue, item, held)
     }
 
     pub(crate) fn push(&mut self, queue: u32, item: u32, place: u64) -> Result<(), AllocError>
@@ -50,8 +52,7 @@ impl Frame {
             whereabouts: Whereabouts::InLine,
             ..old
         };
-        self.set_item(queue, item, pushed);
-        Ok(())
+        self.set_item(queue, item, pushed)
     }
 
     pub(crate) fn give_item(&mut self, queue: u32, item: u32, place: u64) -> Result<(), AllocError>
@@ -64,8 +65,7 @@ impl Frame {
             whereabouts: Whereabouts::InFreeList,
             ..old
         };
-        self.set_item(queue, item, given);
-        Ok(())
+        self.set_item(queue, item, given)
     }
 
     // The number of segments of the larger side.
@@ -97,7 +97,11 @@ fn put(streams: &mut BTreeMap<u64, Stream>, number: u64, stream: Stream) -> Resu
 }
 
 // Puts the changed record of a stream into the map, where it had one. Fails for want of memory alone.
-fn put_changed(streams: &mut BTreeMap<u64, Stream>, number: u64, stream: Option<Stream>) -> Result<(), AllocError>
+fn put_changed(
+    streams: &mut BTreeMap<u64, Stream>,
+    number: u64,
+    stream: Option<Stream>,
+) -> Result<(), AllocError>
     requires { stream ≡ None → get nat_cmp streams.old number ≡ None }
     ensures { OnOk result ((n : ℕ) → get nat_cmp streams.new n ≡ (if n == number then stream else get nat_cmp streams.old n)) }
 {
@@ -117,7 +121,13 @@ fn armed(stream: Option<Stream>, queue: u32, item: &Item) -> Option<Stream>
     }
 }
 
-fn settled(stream: Option<Stream>, is_engine: bool, seat: u32, queue: u32, item: &Item) -> Option<Stream>
+fn settled(
+    stream: Option<Stream>,
+    is_engine: bool,
+    seat: u32,
+    queue: u32,
+    item: &Item,
+) -> Option<Stream>
     ensures value { result ≡ option_map (settled_stream is_engine seat queue item.now) stream }
     ensures none { result ≡ None → stream ≡ None }
 {
@@ -162,8 +172,9 @@ impl Machine {
             stream,
             ..old
         };
-        self.frame.set_item(queue, item, new);
-        self.frame.set_run_owner(old.run, Owner::Message(queue, item))?;
+        self.frame.set_item(queue, item, new)?;
+        self.frame
+            .set_run_owner(old.run, Owner::Message(queue, item))?;
         Ok(())
     }
 
@@ -176,7 +187,7 @@ impl Machine {
         let is_engine = self.frame.role_of(seat) == 0;
         let known = settled(self.stream(stream), is_engine, seat, queue, &old);
         put_changed(&mut self.streams, stream, known)?;
-        self.frame.set_item(queue, item, Item { tag: 0, ..old });
+        self.frame.set_item(queue, item, Item { tag: 0, ..old })?;
         self.frame.set_run_owner(old.run, Owner::Seat(seat))?;
         Ok(())
     }
@@ -223,10 +234,7 @@ impl Machine {
                 queue,
                 item,
                 ..
-            } => {
-                self.frame.get_item(seat, queue, item);
-                Ok(())
-            }
+            } => self.frame.get_item(seat, queue, item),
             Step::SetRun {
                 queue,
                 item,
@@ -234,8 +242,7 @@ impl Machine {
                 ..
             } => {
                 let old = self.frame.item_of(queue, item);
-                self.frame.set_item(queue, item, Item { run, ..old });
-                Ok(())
+                self.frame.set_item(queue, item, Item { run, ..old })
             }
             Step::SetPart {
                 queue,
@@ -244,8 +251,7 @@ impl Machine {
                 ..
             } => {
                 let old = self.frame.item_of(queue, item);
-                self.frame.set_item(queue, item, Item { part, ..old });
-                Ok(())
+                self.frame.set_item(queue, item, Item { part, ..old })
             }
             Step::Arm {
                 seat,
@@ -264,10 +270,7 @@ impl Machine {
                 queue,
                 item,
                 ..
-            } => {
-                self.frame.pop(seat, queue, item);
-                Ok(())
-            }
+            } => self.frame.pop(seat, queue, item),
             Step::Settle {
                 seat,
                 queue,
@@ -308,6 +311,3 @@ impl Machine {
         Ok(unmet)
     }
 }
-ghost use Rattle.trace_check.specs.Shows.{Shows};
-ghost use Rattle.unit_model.specs.declared.machine.Core.{Core};
-ghost use Rattle.unit_model.specs.Effects.{after_step};

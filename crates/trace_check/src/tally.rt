@@ -1,7 +1,7 @@
 //! The numbers of a core in which a legal trace ends.
-ghost use Rattle.std.specs.Prelude.{◌≡◌, ◌+◌, ◌<◌, ◌≤◌, ◌*◌, count_by};
 ghost use Rattle.std.specs.BTreeMap.{get};
 ghost use Rattle.std.specs.Ordering.{nat_cmp};
+ghost use Rattle.std.specs.Prelude.{◌≡◌, ◌+◌, ◌<◌, ◌≤◌, ◌*◌, count_by};
 ghost use Rattle.trace_check.specs.Outcomes.{has_outcome};
 ghost use Rattle.trace_check.specs.Shows.{Shows};
 ghost use Rattle.trace_check.specs.Streams.{known};

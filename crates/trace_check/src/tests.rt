@@ -1,5 +1,6 @@
 use super::*;
-use std::alloc::Global;
+use std::alloc::AllocGlobal;
+use std::process::Abort;
 use std::test::*;
 
 // One request that its client left, and one that is answered.
@@ -19,14 +20,14 @@ const ANSWERED: Verdict = Verdict::Legal {
     left_open: 0,
 };
 
-fn verdict_of(rt: &HostRuntime, text: &[u8]) -> Verdict {
+fn verdict_of(rt: &(impl Abort + AllocGlobal), text: &[u8]) -> Verdict {
     let mut checker = Checker::open(rt.alloc()).expect(rt, "opened");
     checker.feed(rt.alloc(), text).expect(rt, "fed");
     checker.finish()
 }
 
 // The verdict of a text that comes byte by byte.
-fn verdict_by_bytes(rt: &HostRuntime, text: &[u8]) -> Verdict {
+fn verdict_by_bytes(rt: &(impl Abort + AllocGlobal), text: &[u8]) -> Verdict {
     let mut checker = Checker::open(rt.alloc()).expect(rt, "opened");
     for byte in text {
         checker.feed(rt.alloc(), &[*byte]).expect(rt, "fed");

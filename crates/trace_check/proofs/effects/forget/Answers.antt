@@ -1,5 +1,5 @@
-use Rattle.std.proofs.Common.{◌≡◌, ◌≢◌, ℕ, ap}
-use Rattle.trace_check.specs.Owners.{owner_in, or_free}
+use Rattle.std.proofs.Common.{ap}
+use Rattle.trace_check.specs.Owners.{or_free}
 use Rattle.trace_check.proofs.Keys.{apart_keys}
 use Rattle.trace_check.proofs.effects.forget.Goals as goal
 

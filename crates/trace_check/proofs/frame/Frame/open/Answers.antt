@@ -1,4 +1,4 @@
-use Rattle.std.proofs.Common.{◌≡◌, ◌+◌, ◌*◌, refl}
+use Rattle.std.proofs.Common.{◌+◌, ◌*◌, refl}
 use Rattle.trace_check.proofs.Listed.{all_free}
 use Rattle.trace_check.proofs.frame.Frame.open.Goals as goal
 

@@ -1,4 +1,4 @@
-use Rattle.std.proofs.Common.{◌≡◌, ◌+◌, ◌*◌, refl}
+use Rattle.std.proofs.Common.{◌+◌, ◌*◌, refl}
 use Rattle.trace_check.specs.Owners.{owner_in}
 use Rattle.trace_check.proofs.Listed.{set_listed}
 use Rattle.unit_model.specs.Effects.{with_owner}

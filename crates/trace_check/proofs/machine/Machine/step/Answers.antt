@@ -2,7 +2,7 @@ use Rattle.std.proofs.Common.{◌≡◌, ◌∙◌, ℕ, [], ap, sym, subst}
 use Rattle.std.specs.BTreeMap.{get}
 use Rattle.std.specs.Ordering.{nat_cmp}
 use Rattle.std.specs.Prelude.{Option}
-use Rattle.trace_check.specs.Shows.{Shows, Agrees, IsReached}
+use Rattle.trace_check.specs.Shows.{Agrees, IsReached}
 use Rattle.trace_check.specs.Streams.{first_unmet_known, frame_after, stream_after}
 use Rattle.trace_check.specs.declared.streams.Stream.{Stream}
 use Rattle.trace_check.proofs.Kept.{frame_kept, kept}

@@ -1,4 +1,4 @@
-use Rattle.std.proofs.Common.{◌≡◌, ◌∙◌, true, ◌++◌, List, ap, sym, subst}
+use Rattle.std.proofs.Common.{◌≡◌, ◌∙◌, true, ap, sym, subst}
 use Rattle.std.specs.Prelude.{Option, None, is_some}
 use Rattle.trace_check.specs.Bytes.{after_bytes}
 use Rattle.trace_check.specs.Reading.{Stands}

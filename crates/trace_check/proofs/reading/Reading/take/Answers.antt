@@ -1,9 +1,9 @@
-use Rattle.std.proofs.Common.{◌≡◌, ◌∙◌, ◌+◌, ◌<◌, ◌≤◌, ℕ, true, List, length, drop, get_or, refl, ap, sym, subst, arith}
+use Rattle.std.proofs.Common.{◌≡◌, ◌∙◌, ◌+◌, ◌<◌, ◌≤◌, ℕ, true, length, drop, get_or, refl, ap, sym, subst, arith}
 use Rattle.std.specs.Prelude.{Option, None, is_some}
 use Rattle.trace_check.specs.Bytes.{after_byte, after_bytes}
 use Rattle.trace_check.specs.Counted.{IsCounted}
-use Rattle.trace_check.specs.Reading.{Follows, Stands}
-use Rattle.trace_check.specs.Verdicts.{Passed, Standing, going}
+use Rattle.trace_check.specs.Reading.{Stands}
+use Rattle.trace_check.specs.Verdicts.{Standing, going}
 use Rattle.trace_check.specs.declared.verdict.Verdict.{Verdict}
 use Rattle.trace_check.proofs.Stood.{next_byte, no_byte, not_some, settled_now, still_going}
 use Rattle.trace_check.proofs.reading.Reading.take.Goals as goal
@@ -16,10 +16,10 @@ returns-then-is_some-clause-stands c = λ at text follows.
     let within : i < length bytes = omega arith in
     let byte = get_or bytes i 0 in
     let whole : after_bytes (going at text) bytes ≡ after_bytes (after_byte (going before.0 before.1) byte) (drop (i + 1) bytes) =
-        before.3 ∙ ap (after_bytes (going before.0 before.1)) (next_byte bytes i within) in
+    before.3 ∙ ap (after_bytes (going before.0 before.1)) (next_byte bytes i within) in
     let some : is_some c.in_ok-verdict.verdict ≡ true = sym c.if-is_some.ensures in
     let now = settled_now (after_byte (going before.0 before.1) byte) (drop (i + 1) bytes) c.in_ok-verdict.verdict c.take_byte.new.self some
-        (c.in_ok-verdict.ensures.stands before.0 before.1 before.2) in
+    (c.in_ok-verdict.ensures.stands before.0 before.1 before.2) in
     let P : Standing → Type 0 = λ s. Stands s c.in_ok-verdict.verdict c.take_byte.new.self in
     subst P (sym whole) now
 
@@ -38,9 +38,12 @@ loop-byte-preserved c = record {
       let byte = get_or bytes i 0 in
       let none : c.in_ok-verdict.verdict ≡ None = not_some c.in_ok-verdict.verdict (sym c.if-is_some.ensures) in
       let P : Option Verdict → Type 0 = λ v. Stands (after_byte (going before.0 before.1) byte) v c.take_byte.new.self in
-      let now = still_going (after_byte (going before.0 before.1) byte) c.take_byte.new.self (subst P none (c.in_ok-verdict.ensures.stands before.0 before.1 before.2)) in
-      (now.0, now.1, now.3,
-      before.3 ∙ ap (after_bytes (going before.0 before.1)) (next_byte bytes i within) ∙ ap (λ s. after_bytes s (drop (i + 1) bytes)) now.2);
+      let now = still_going (after_byte (going before.0 before.1) byte) c.take_byte.new.self (subst P none (c.in_ok-verdict.ensures.stands before.0 before.1 before.2)) in (
+        now.0,
+        now.1,
+        now.3,
+        before.3 ∙ ap (after_bytes (going before.0 before.1)) (next_byte bytes i within) ∙ ap (λ s. after_bytes s (drop (i + 1) bytes)) now.2,
+      );
 }
 
 pub returns-clause-stands : goal.returns-clause-stands

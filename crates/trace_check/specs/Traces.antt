@@ -1,0 +1,33 @@
+-- Which inputs are legal traces.
+use Rattle.std.specs.Prelude.{◌≡◌, ◌<◌, true, List, [], ◌∷◌, length, Some, ◌⊎◌}
+use Rattle.trace_check.specs.Lines.{shape_of, step_of}
+use Rattle.trace_check.specs.Verdicts.{Line, is_valid, plain_shape}
+use Rattle.trace_check.specs.declared.verdict.Verdict.{Verdict}
+use Rattle.trace_check.specs.declared.verdict.Verdict.TheVariants.{Broken, Illegal, Legal}
+use Rattle.unit_model.specs.declared.machine.Step.{Step}
+use Rattle.unit_model.specs.declared.shape.Shape.{Shape}
+
+-- the line ends with its LF, which is one of its first 256 bytes
+abbrev pub IsWhole : Line → Type 0
+IsWhole line = (line.is_ended ≡ true) × (length line.text < 256)
+
+-- the lines say these steps
+abbrev pub SaySteps : List Line → List Step → Type 0
+SaySteps [] [] = Unit {0}
+SaySteps [] (step ∷ steps) = ⊥
+SaySteps (line ∷ lines) [] = ⊥
+SaySteps (line ∷ lines) (step ∷ steps) = IsWhole line × (step_of line.text ≡ Some step) × SaySteps lines steps
+
+-- the first line says this shape, which a fabric can have, and the others say these steps
+abbrev pub SayShape : List Line → Shape → List Step → Type 0
+SayShape [] shape steps = ⊥
+SayShape (line ∷ lines) shape steps = IsWhole line × (shape_of line.text ≡ Some shape) × (is_valid shape ≡ true) × SaySteps lines steps
+
+-- the lines say a shape, which is the plain one where no line says it, and steps
+abbrev pub Say : List Line → Shape → List Step → Type 0
+Say lines shape steps = ((shape ≡ plain_shape) × SaySteps lines steps) ⊎ SayShape lines shape steps
+
+abbrev pub IsLegal : Verdict → Type 0
+IsLegal (Broken place) = ⊥
+IsLegal (Illegal line rule want found) = ⊥
+IsLegal (Legal steps free chunks drawn accepted cancelled abandoned refused left_open) = Unit {0}

@@ -1,0 +1,23 @@
+//! Laws of traces. The functions do nothing: their contracts are the laws.
+ghost use Rattle.std.specs.Prelude.{◌≡◌, ◌∷◌, ◌++◌, [], ℕ, List, Some, length};
+ghost use Rattle.trace_check.specs.Lines.{step_of};
+ghost use Rattle.trace_check.specs.ReadBack.{FitsStep};
+ghost use Rattle.trace_check.specs.Traces.{IsLegal, Say};
+ghost use Rattle.trace_check.specs.Verdicts.{legal, lines_of, tally_of, verdict_of};
+ghost use Rattle.unit_model.specs.Lines.{line_of};
+ghost use Rattle.unit_model.specs.Opening.{opened_core};
+ghost use Rattle.unit_model.specs.Running.{AllEnabled, after_steps};
+ghost use Rattle.unit_model.specs.declared.machine.Step.{Step};
+ghost use Rattle.unit_model.specs.declared.shape.Shape.{Shape};
+
+/// The line by which a step is told is read back as that step.
+pub fn lines_are_read_back()
+    ensures { (step : Step) (text : List ℕ) → FitsStep step → line_of step ≡ text ++ 10 ∷ [] → step_of text ≡ Some step }
+{}
+
+/// A trace is legal exactly where its lines say steps that run from the opened core of the shape: `run_core` does such steps
+/// to the end, where memory doesn't run out. Its numbers are then those of the core that they lead to.
+pub fn legal_where_steps_run()
+    ensures legal { (bytes : List ℕ) → IsLegal (verdict_of bytes) → (shape : Shape) × (steps : List Step) × Say (lines_of bytes) shape steps × AllEnabled (opened_core shape) steps }
+    ensures enabled { (bytes : List ℕ) (shape : Shape) (steps : List Step) → Say (lines_of bytes) shape steps → AllEnabled (opened_core shape) steps → verdict_of bytes ≡ legal (length steps) (tally_of (after_steps (opened_core shape) steps)) }
+{}
