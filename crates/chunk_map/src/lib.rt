@@ -6,12 +6,16 @@
 #![tactic(auto)]
 
 mod claim;
+mod laws;
 mod map;
 mod search;
 mod seat;
 mod view;
 
 pub use claim::{Claim, Opened};
+pub use laws::{
+    free_weight_falls, free_weight_rises, free_weight_stays, one_seat_a_chunk, open_part_steps,
+};
 pub use map::ChunkMap;
 pub use seat::MapSeat;
 pub use view::{MapEvent, MapView};

@@ -168,11 +168,9 @@ impl ChunkMap {
     {
         let table = &self.table;
         let shared = &table.shared;
-        let found = shared.fetch_and::<Taking>(
-            &mut seat.seat,
-            16 * (number / 10 + 1) + number % 10,
-            !(1u64 << bit),
-        );
+        let index = 16 * (number / 10 + 1) + number % 10;
+        let mask = !(1u64 << bit);
+        let found = shared.fetch_and::<Taking>(&mut seat.seat, index, mask);
         (found >> bit) & 1 == 1
     }
 

@@ -11,7 +11,7 @@ const BITS: usize = 640;
 fn word_at(words: &[u64; WORDS], number: usize) -> u64
     ensures { result ≡ slice_index words.now number }
 {
-    if number < WORDS { words[number] } else { 0 }
+    words.get(number).copied().unwrap_or(0)
 }
 
 // Word `number` of the words moved so many places down.
