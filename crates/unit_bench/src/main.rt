@@ -4,13 +4,16 @@
 
 mod grammars;
 mod input;
+mod maps;
 mod records;
+mod rings;
 mod timing;
 mod trees;
 
 use std::{env, io};
 
-const WORDS: &str = "read-input normal-path matches expand write-record read-record trees";
+const WORDS: &str =
+    "read-input normal-path matches expand write-record read-record trees ring-alone ring-shared claim";
 
 fn run(rt: &HostRuntime, word: &str) -> io::Result<()> {
     match word {
@@ -27,7 +30,12 @@ fn run(rt: &HostRuntime, word: &str) -> io::Result<()> {
 
 fn main(rt: HostRuntime) -> io::Result<()> {
     match env::args(&rt)?.nth(1) {
-        Some(word) => run(&rt, word.as_str()),
+        Some(word) => match word.as_str() {
+            "ring-alone" => rings::alone(&rt, rt.alloc()),
+            "ring-shared" => rings::shared(&rt, rt.alloc()),
+            "claim" => maps::claims(&rt, rt.alloc()),
+            word => run(&rt, word),
+        },
         None => println!(rt; "{WORDS}"),
     }
 }

@@ -15,3 +15,8 @@ pub fn report(rt: &impl Print, name: &str, measured: u64, base: u64, most: u64) 
     let ratio = measured.saturating_mul(100) / base.max(1);
     println!(rt; "{name} ratio {ratio} hundredths, at most {most}: {measured} ns to {base} ns")
 }
+
+/// The lower of two times, where the later measurement did all that it was to do.
+pub fn best(best: u64, time: u64, all_done: bool) -> u64 {
+    if all_done { best.min(time) } else { best }
+}
