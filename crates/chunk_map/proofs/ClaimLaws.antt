@@ -1,5 +1,5 @@
 -- What the steps of a search leave true.
-use Rattle.std.proofs.Common.{ℕ, ◌≡◌, ◌≢◌, ◌↔◌, ◌+◌, ◌-◌, ◌*◌, ◌/◌, ◌%◌, ◌<◌, ◌≤◌, ◌==◌, ◌||◌, inl, inr, ⊎_elim, Bool, true, false, if◌then◌else◌, List, set, length, slice_index, refl, sym, ap, ◌∙◌, subst, arith, get_or-set_same, get_or-set_other}
+use Rattle.std.proofs.Common.{ℕ, ◌≡◌, ◌≢◌, ◌↔◌, ◌+◌, ◌-◌, ◌*◌, ◌/◌, ◌%◌, ◌<◌, ◌≤◌, ◌==◌, ◌||◌, not, inl, inr, ⊎_elim, Bool, true, false, if◌then◌else◌, List, set, length, slice_index, refl, sym, ap, ◌∙◌, subst, arith, get_or-set_same, get_or-set_other}
 use Rattle.std.specs.Int.{bit_at}
 use Rattle.std.proofs.lemmas.Bool.{eq-eqb, ne_eqb, cases_eq, cases_lt}
 use Rattle.std.proofs.lemmas.Nat.{bit_set_by_shift}
@@ -11,7 +11,7 @@ use Rattle.unit_model.proofs.Weights.{is_number_some}
 use Rattle.chunk_map.specs.declared.view.MapEvent.TheVariants.{SawOpen, SawWord}
 use Rattle.chunk_map.specs.declared.view.MapView.{MapView}
 use Rattle.chunk_map.specs.Gains.{gained, tried, SameSearch}
-use Rattle.chunk_map.specs.Looks.{was_gained, seen_free}
+use Rattle.chunk_map.specs.Looks.{was_gained, was_looked, seen_free, may_be_free}
 use Rattle.chunk_map.specs.Runs.{AreFree, NoneBelow}
 use Rattle.chunk_map.specs.Search.{bit_of, AllSet, NoneSet}
 use Rattle.chunk_map.specs.Seats.{Shows}
@@ -84,6 +84,7 @@ shows_tried seen seen' v first n free never here others shows chunk within =
 pub record Trying (before v : MapView) (seen_before seen starts : List ℕ) (segment count from : ℕ) : Type 0 where
   pub held : v.held ≡ before.held
   pub search : SameSearch before v
+  pub looked : (chunk : ℕ) → chunk / 640 ≡ segment → was_looked v.log chunk ≡ true
   pub fresh : (chunk : ℕ) → 640 * segment + from ≤ chunk → was_gained v.log chunk ≡ false
   pub shows : Shows seen v
   pub others : (number : ℕ) → number / 10 ≢ segment → slice_index seen number ≡ slice_index seen_before number
@@ -141,6 +142,7 @@ module _ (before v : MapView) (seen_before seen starts : List ℕ) (segment coun
   tried_on first seen' n fewer later free none_set here others other_words = record {
     held = tried_held (640 * segment + first) n v ∙ trying.held;
     search = search_on before v (tried (640 * segment + first) n v) trying.search (search_tried (640 * segment + first) n v);
+    looked = λ chunk is. (search_tried (640 * segment + first) n v).looked chunk (trying.looked chunk is);
     fresh = λ chunk from_there. tried_gained (640 * segment + first) n v chunk (inr (omega (arith, from_there))) ∙ trying.fresh chunk (omega (arith, from_there, later));
     shows = shows_tried seen seen' v (640 * segment + first) n (λ i lt. free_chunk first free i (omega (arith, lt, fewer))) (trying.fresh (640 * segment + first + n) (omega (arith, later))) here others trying.shows;
     others = λ number ne. other_words number (λ is. ne (omega (arith, is, fewer, free.0))) ∙ trying.others number ne;
@@ -177,8 +179,16 @@ shows_nothing words v opened none chunk within = ne_eqb (bit_at (slice_index wor
 pub free_in_looks : (words : List ℕ) (v : MapView) (n segment first : ℕ) → segment < 8 → Shows words v → AreFree (is_free (slice_index words)) n segment first → AreFree (seen_free v.log) n segment first
 free_in_looks words v n segment first lt shows free = (free.0, λ i below. sym (shows (640 * segment + (first + i)) (omega (arith, lt, below, free.0))) ∙ free.1 i below)
 
-pub none_in_looks : (words : List ℕ) (v : MapView) (n segment first : ℕ) → segment < 8 → Shows words v → NoneBelow (is_free (slice_index words)) n segment first → NoneBelow (seen_free v.log) n segment first
-none_in_looks words v n segment first lt shows none chunk below free = none chunk below (free.0, λ i within. shows (640 * segment + (chunk + i)) (omega (arith, lt, within, free.0)) ∙ free.1 i within)
+-- where all chunks of the segment were looked at, none free by the words, so none that the looks allow
+pub none_allowed : (words : List ℕ) (v : MapView) (n segment first : ℕ) → segment < 8 → Shows words v → ((chunk : ℕ) → chunk / 640 ≡ segment → was_looked v.log chunk ≡ true)
+    → NoneBelow (is_free (slice_index words)) n segment first → NoneBelow (may_be_free v.log) n segment first
+none_allowed words v n segment first lt shows looked none chunk below free = none chunk below (
+  free.0,
+  λ i within.
+      let place : ℕ = 640 * segment + (chunk + i) in
+      let was = looked place (omega (arith, within, free.0)) in
+      shows place (omega (arith, lt, within, free.0)) ∙ sym (ap (λ (b : Bool). not b || seen_free v.log place) was) ∙ free.1 i within,
+)
 
 -- other segments stay
 pub none_stays : (words words' : List ℕ) (n segment other first : ℕ) → other ≢ segment → ((number : ℕ) → number / 10 ≢ segment → slice_index words' number ≡ slice_index words number)

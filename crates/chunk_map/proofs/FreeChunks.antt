@@ -1,7 +1,7 @@
 -- What the free chunks weigh after one chunk changed.
-use Rattle.std.proofs.Common.{ℕ, ◌≡◌, ◌+◌, ◌<◌, ◌≤◌, Bool, true, false, cond, ap, arith}
-use Rattle.unit_model.specs.Weights.{below, is_number}
-use Rattle.unit_model.proofs.Weights.{below_same, below_change, below_at, is_number_same}
+use Rattle.std.proofs.Common.{ℕ, ◌≡◌, ◌≢◌, ◌+◌, ◌<◌, ◌≤◌, Bool, true, false, cond, refl, ap, arith}
+use Rattle.unit_model.specs.Weights.{below, is_number, one_if}
+use Rattle.unit_model.proofs.Weights.{below_same, below_change, below_at, below_none, is_number_same, is_number_other}
 use Rattle.chunk_map.specs.Words.{is_free, free_weight, Takes, Frees, Stays}
 
 weight : (f : ℕ → ℕ) (chunk : ℕ) (free known : Bool) → free ≡ known → cond free (f chunk) 0 ≡ cond known (f chunk) 0
@@ -39,3 +39,21 @@ not_free n word chunk lt none = by (is_free word chunk) (omega (arith, none, bel
     by : (free : Bool) → cond free (is_number chunk chunk) 0 ≤ 0 → free ≡ false
     by false le = λ i. false
     by true le = absurd (omega (arith, le, is_number_same chunk))
+
+-- what one chunk alone weighs among the free ones
+pub free_one : (n : ℕ) (word : ℕ → ℕ) (chunk : ℕ) → chunk < n → free_weight word n (is_number chunk) ≡ one_if (is_free word chunk)
+free_one n word chunk lt =
+    omega (
+      arith,
+      below_change (λ i. 0) (λ i. cond (is_free word i) (is_number chunk i) 0) n chunk lt (λ i within ne. none i ne (is_free word i)),
+      below_none (λ i. 0) n (λ i within. refl),
+      here (is_free word chunk),
+    )
+  where
+    none : (i : ℕ) → i ≢ chunk → (b : Bool) → cond b (is_number chunk i) 0 ≡ 0
+    none i ne true = is_number_other chunk i ne
+    none i ne false = refl
+
+    here : (b : Bool) → cond b (is_number chunk chunk) 0 ≡ one_if b
+    here true = is_number_same chunk
+    here false = refl

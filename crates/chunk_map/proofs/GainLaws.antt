@@ -8,7 +8,7 @@ use Rattle.unit_model.proofs.Weights.{is_number_same, is_number_other, weigh_ran
 use Rattle.chunk_map.specs.declared.view.MapEvent.TheVariants.{Missed}
 use Rattle.chunk_map.specs.declared.view.MapView.{MapView}
 use Rattle.chunk_map.specs.Gains.{gained, given_back, tried, SameSearch}
-use Rattle.chunk_map.specs.Looks.{was_gained, seen_free}
+use Rattle.chunk_map.specs.Looks.{was_gained, seen_free, was_looked}
 use Rattle.chunk_map.specs.Views.{held_by, after, without_chunk}
 use Rattle.chunk_map.proofs.MapSteps.{weigh_without}
 
@@ -71,31 +71,36 @@ gained_outside first (suc n) v chunk out =
 
 -- ---- the search goes on
 
+pub still_true : (b x : Bool) → x ≡ true → (if b then true else x) ≡ true
+still_true true x is = refl
+still_true false x is = is
+
 pub search_same : (v : MapView) → SameSearch v v
-search_same v = record { segments = refl; opened = refl; searched = λ count before s. s }
+search_same v = record { segments = refl; opened = refl; looked = λ chunk was. was; searched = λ count before s. s }
 
 pub search_on : (v w u : MapView) → SameSearch v w → SameSearch w u → SameSearch v u
 search_on v w u one two = record {
   segments = two.segments ∙ one.segments;
   opened = two.opened ∙ one.opened;
+  looked = λ chunk was. two.looked chunk (one.looked chunk was);
   searched = λ count before s. two.searched count before (one.searched count before s);
 }
 
 pub search_gained : (first n : ℕ) (v : MapView) → SameSearch v (gained first n v)
 search_gained first zero v = search_same v
-search_gained first (suc n) v = let before = search_gained first n v in record { segments = before.segments; opened = before.opened; searched = before.searched }
+search_gained first (suc n) v = let before = search_gained first n v in record { segments = before.segments; opened = before.opened; looked = λ chunk was. still_true (first + n == chunk) (was_looked (gained first n v).log chunk) (before.looked chunk was); searched = before.searched }
 
 pub search_back : (first n : ℕ) (v : MapView) → SameSearch v (given_back first n v)
 search_back first zero v = search_same v
 search_back first (suc n) v =
     let later = search_back first n (without_chunk (first + n) v) in
-    record { segments = later.segments; opened = later.opened; searched = later.searched }
+    record { segments = later.segments; opened = later.opened; looked = later.looked; searched = later.searched }
 
 pub search_tried : (first n : ℕ) (v : MapView) → SameSearch v (tried first n v)
 search_tried first n v =
     let missed : MapView = after (Missed (first + n)) (gained first n v) in
     let before = search_gained first n v in
-    search_on v missed (given_back first n missed) record { segments = before.segments; opened = before.opened; searched = before.searched } (search_back first n missed)
+    search_on v missed (given_back first n missed) record { segments = before.segments; opened = before.opened; looked = λ chunk was. still_true (first + n == chunk) (was_looked (gained first n v).log chunk) (before.looked chunk was); searched = before.searched } (search_back first n missed)
 
 -- ---- a try that missed a chunk
 

@@ -1,5 +1,5 @@
 -- Each step on the table of a chunk map keeps its rule.
-use Rattle.std.proofs.Common.{ℕ, ◌≡◌, ◌≢◌, ◌+◌, ◌*◌, ◌/◌, ◌%◌, ◌^◌, ◌<◌, ◌≤◌, ◌==◌, inl, inr, ⊎_elim, zero, suc, replicate, eqb, Bool, true, false, cond, List, [], ◌∷◌, length, slice_index, set, refl, sym, ap, ◌∙◌, subst, arith, get_or-set_same, get_or-set_other, length-set}
+use Rattle.std.proofs.Common.{ℕ, ◌≡◌, ◌≢◌, ◌+◌, ◌*◌, ◌/◌, ◌%◌, ◌^◌, ◌<◌, ◌≤◌, ◌==◌, inl, inr, ⊎_elim, zero, suc, replicate, eqb, Bool, true, false, cond, List, [], ◌∷◌, length, slice_index, set, refl, sym, ap, ◌∙◌, subst, arith, get_or-set_same, get_or-set_other, length-set, ◌++◌}
 use Rattle.std.specs.Prelude.{bit_and, bit_or}
 use Rattle.std.specs.Int.{bit_at, bit_not, w64}
 use Rattle.std.proofs.lemmas.List.{set-get_or, length-replicate, get_or-replicate}
@@ -11,19 +11,19 @@ use lib.ListN.{get_elem?}
 use Rattle.atomic_table.specs.Table.{State, Me, Act, keeps, step, stepped, Valid, carried_after, opening as table_opening, Splits, Joins}
 use Rattle.atomic_table.proofs.Lists.{exchanged}
 use Rattle.unit_model.specs.Sharing.{Owned, Holds}
-use Rattle.unit_model.specs.Weights.{weigh, is_number, one_if, without_first}
+use Rattle.unit_model.specs.Weights.{weigh, is_number, one_if, without_first, below}
 use Rattle.unit_model.proofs.Sharing.{owned_stays, owned_split, owned_join, owned_moves, owned_here}
-use Rattle.unit_model.proofs.Weights.{weigh-without_first, is_number_some}
+use Rattle.unit_model.proofs.Weights.{weigh-append, weigh-without_first, is_number_some}
 use Rattle.chunk_map.specs.declared.view.MapView.{MapView}
 use Rattle.chunk_map.specs.declared.view.MapEvent.{MapEvent}
 use Rattle.chunk_map.specs.declared.view.MapEvent.TheVariants.{SawOpen, SawWord, Missed, OpenedTo, FoundOpen}
-use Rattle.chunk_map.specs.Parts.{OpenPart}
+use Rattle.chunk_map.specs.Parts.{OpenPart, OpeningsCounted}
 use Rattle.chunk_map.specs.Rule.{table_index, word_number, map_words, MapHolds, SeesOpen, SeesWord, TakesBit, FreesBit, OpensOne}
-use Rattle.chunk_map.specs.Views.{held_by, open_noted, empty, after, with_chunk, without_chunk}
+use Rattle.chunk_map.specs.Views.{held_by, open_noted, empty, after, with_chunk, without_chunk, opening_weight, openings_of, together}
 use Rattle.chunk_map.specs.Words.{is_free, free_weight, Takes, Frees}
 use Rattle.chunk_map.proofs.Numbers.{index_within, number_back, index_some, free_where_one, held_where_zero, word_here, others_stay, mask_of_one, set_of_one}
 use Rattle.chunk_map.proofs.FreeChunks.{free_taken, free_freed, free_stays, free_all, not_free}
-use Rattle.chunk_map.proofs.OpenSegments.{open_steps, open_splits}
+use Rattle.chunk_map.proofs.OpenSegments.{open_steps, open_splits, counted_stays, counted_opens, counted_splits, counted_joins}
 
 -- a list without one chunk that is in it
 pub weigh_without : (f : ℕ → ℕ) (chunk : ℕ) (chunks : List ℕ) → 0 < weigh (is_number chunk) chunks → weigh f (without_first (λ other. other == chunk) chunks) + f chunk ≡ weigh f chunks
@@ -37,12 +37,13 @@ After n i id carried s new told = (w : MapView) × (a : Act ℕ) × Valid s.home
 
 module _ (n i slots id : ℕ) (v : MapView) (carried : List (ℕ × ℕ)) (s : State ℕ MapView) (holds : MapHolds n s) (at : get_elem? s.views id ≡ some v) where
   -- the seat notes an event by which it has seen no more segments open than there are
-  noted : (e : MapEvent) → open_noted (after e v) ≤ slice_index s.words 0 → MapHolds n (stepped s i (slice_index s.words i) id carried (after e v) keeps)
-  noted e fits =
+  noted : (e : MapEvent) → open_noted (after e v) ≤ slice_index s.words 0 → ((f : ℕ → ℕ) → opening_weight f e ≡ 0) → MapHolds n (stepped s i (slice_index s.words i) id carried (after e v) keeps)
+  noted e fits nothing =
       let same : set s.words i (slice_index s.words i) ≡ s.words = set-get_or s.words i 0 in
       record {
         wide = ap length same ∙ holds.wide;
         opened = subst (λ (ws : List ℕ). OpenPart n open_noted (slice_index ws 0) (map_words ws) (set s.views id (after e v))) (sym same) (open_steps n open_noted (slice_index s.words 0) (slice_index s.words 0) (map_words s.words) (map_words s.words) s.views id (after e v) (omega arith) holds.opened.most fits (λ chunk lt above free. free) holds.opened);
+        counted = counted_stays openings_of (slice_index s.words 0) (slice_index (set s.words i (slice_index s.words i)) 0) s.views id v (after e v) at (ap (λ (ws : List ℕ). slice_index ws 0) same) (λ f. omega (arith, nothing f)) holds.counted;
         owned = subst (λ (ws : List ℕ). Owned held_by (free_weight (map_words ws) (640 * n)) (640 * n) (set s.views id (after e v))) (sym same) (owned_stays held_by (free_weight (map_words s.words) (640 * n)) (640 * n) s.views id v (after e v) at (λ f. refl) holds.owned);
       }
 
@@ -52,8 +53,8 @@ module _ (n i slots id : ℕ) (v : MapView) (carried : List (ℕ × ℕ)) (s : S
         after (SawOpen (slice_index s.words i)) v,
         keeps,
         tt,
-        noted (SawOpen (slice_index s.words i)) (omega (arith, found)),
-        (refl, refl, omega (arith, found, holds.opened.least), omega (arith, found, holds.opened.most, sized)),
+        noted (SawOpen (slice_index s.words i)) (omega (arith, found)) (λ f. refl),
+        (refl, refl, omega (arith, found, holds.opened.least), omega (arith, found, holds.opened.seen id v at), omega (arith, found, holds.opened.most, sized)),
       )
 
   pub sees_word : After n i id carried s (slice_index s.words i) (SeesWord (step slots i 0 0 none) (v, carried) (slice_index s.words i))
@@ -61,7 +62,7 @@ module _ (n i slots id : ℕ) (v : MapView) (carried : List (ℕ × ℕ)) (s : S
     after (SawWord (word_number i) (slice_index s.words i)) v,
     keeps,
     tt,
-    noted (SawWord (word_number i) (slice_index s.words i)) (holds.opened.seen id v at),
+    noted (SawWord (word_number i) (slice_index s.words i)) (holds.opened.seen id v at) (λ f. refl),
     (refl, refl),
   )
 
@@ -73,25 +74,30 @@ same_chunk words opened chunk = ap (λ x. bit_at x (chunk % 64) == 1) (get_or-se
 
 module _ (n count slots id : ℕ) (v : MapView) (carried : List (ℕ × ℕ)) (s : State ℕ MapView) (sized : v.segments ≡ n) (more : count < n) (holds : MapHolds n s) (at : get_elem? s.views id ≡ some v) where
   -- the number becomes another one that isn't lower, and the seat notes an event by which it has seen no more
-  changed : (new : ℕ) (e : MapEvent) → slice_index s.words 0 ≤ new → new ≤ n → open_noted (after e v) ≤ new → MapHolds n (stepped s 0 new id carried (after e v) keeps)
-  changed new e rises most fits =
+  changed : (new : ℕ) (e : MapEvent) → slice_index s.words 0 ≤ new → new ≤ n → open_noted (after e v) ≤ new → OpeningsCounted openings_of (slice_index (set s.words 0 new) 0) (set s.views id (after e v)) → MapHolds n (stepped s 0 new id carried (after e v) keeps)
+  changed new e rises most fits count_it =
       let is_new : slice_index (set s.words 0 new) 0 ≡ new = get_or-set_same s.words 0 new 0 (omega (arith, holds.wide)) in
       record {
         wide = length-set s.words 0 new ∙ holds.wide;
         opened = open_steps n open_noted (slice_index s.words 0) (slice_index (set s.words 0 new) 0) (map_words s.words) (map_words (set s.words 0 new)) s.views id (after e v) (omega (arith, rises, is_new)) (omega (arith, most, is_new)) (omega (arith, fits, is_new)) (λ chunk lt above free. same_chunk s.words new chunk ∙ free) holds.opened;
+        counted = count_it;
         owned = owned_moves held_by (free_weight (map_words s.words) (640 * n)) (free_weight (map_words (set s.words 0 new)) (640 * n)) (640 * n) s.views id v (after e v) at (λ f. omega (arith, free_stays (640 * n) (map_words s.words) (map_words (set s.words 0 new)) (λ chunk lt. same_chunk s.words new chunk) f)) holds.owned;
       }
 
-  bounds : (1 ≤ slice_index s.words 0) × (slice_index s.words 0 ≤ v.segments)
-  bounds = (holds.opened.least, omega (arith, holds.opened.most, sized))
+  bounds : (1 ≤ slice_index s.words 0) × (open_noted v ≤ slice_index s.words 0) × (slice_index s.words 0 ≤ v.segments)
+  bounds = (holds.opened.least, holds.opened.seen id v at, omega (arith, holds.opened.most, sized))
+
+  is_new : (new : ℕ) → slice_index (set s.words 0 new) 0 ≡ new
+  is_new new = get_or-set_same s.words 0 new 0 (omega (arith, holds.wide))
 
   hit : slice_index s.words 0 ≡ count → After n 0 id carried s (count + 1) (OpensOne (step slots 0 count (count + 1) none) (v, carried) (slice_index s.words 0))
   hit is = (
     after (OpenedTo (count + 1)) v,
     keeps,
     tt,
-    changed (count + 1) (OpenedTo (count + 1)) (omega (arith, is)) (omega (arith, more)) (omega arith),
-    (refl, ap (λ (b : Bool). after (cond b (OpenedTo (count + 1)) (FoundOpen (slice_index s.words 0))) v) (sym (eq-eqb (slice_index s.words 0) count is)), bounds.0, bounds.1),
+    changed (count + 1) (OpenedTo (count + 1)) (omega (arith, is)) (omega (arith, more)) (omega arith)
+        (counted_opens openings_of (slice_index s.words 0) (slice_index (set s.words 0 (count + 1)) 0) s.views id v (after (OpenedTo (count + 1)) v) at (is_new (count + 1) ∙ ap (λ (m : ℕ). m + 1) (sym is)) (λ f. omega (arith, ap (λ (m : ℕ). f (m + 1)) is)) holds.counted),
+    (refl, ap (λ (b : Bool). after (cond b (OpenedTo (count + 1)) (FoundOpen (slice_index s.words 0))) v) (sym (eq-eqb (slice_index s.words 0) count is)), bounds.0, bounds.1, bounds.2),
   )
 
   miss : slice_index s.words 0 ≢ count → After n 0 id carried s (slice_index s.words 0) (OpensOne (step slots 0 count (count + 1) none) (v, carried) (slice_index s.words 0))
@@ -99,8 +105,9 @@ module _ (n count slots id : ℕ) (v : MapView) (carried : List (ℕ × ℕ)) (s
     after (FoundOpen (slice_index s.words 0)) v,
     keeps,
     tt,
-    changed (slice_index s.words 0) (FoundOpen (slice_index s.words 0)) (omega arith) holds.opened.most (omega arith),
-    (refl, ap (λ (b : Bool). after (cond b (OpenedTo (count + 1)) (FoundOpen (slice_index s.words 0))) v) (sym (ne_eqb (slice_index s.words 0) count ne)), bounds.0, bounds.1),
+    changed (slice_index s.words 0) (FoundOpen (slice_index s.words 0)) (omega arith) holds.opened.most (omega arith)
+        (counted_stays openings_of (slice_index s.words 0) (slice_index (set s.words 0 (slice_index s.words 0)) 0) s.views id v (after (FoundOpen (slice_index s.words 0)) v) at (is_new (slice_index s.words 0)) (λ f. omega arith) holds.counted),
+    (refl, ap (λ (b : Bool). after (cond b (OpenedTo (count + 1)) (FoundOpen (slice_index s.words 0))) v) (sym (ne_eqb (slice_index s.words 0) count ne)), bounds.0, bounds.1, bounds.2),
   )
 
   pub opens_one : After n 0 id carried s (either (eqb (slice_index s.words 0) count) (count + 1) (slice_index s.words 0)) (OpensOne (step slots 0 count (count + 1) none) (v, carried) (slice_index s.words 0))
@@ -125,15 +132,16 @@ module _ (n number bit slots id : ℕ) (v : MapView) (carried : List (ℕ × ℕ
   number_told b same = omega (arith, number_back number, same)
 
   -- the rule after it, where the words become these and the seat's view this one
-  kept : (new : ℕ) (u : MapView) → open_noted u ≡ open_noted v
+  kept : (new : ℕ) (u : MapView) → open_noted u ≡ open_noted v → ((f : ℕ → ℕ) → openings_of f u ≡ openings_of f v)
       → ((c : ℕ) → c < 640 * n → slice_index s.words 0 ≤ c / 640 → is_free (map_words s.words) c ≡ true → is_free (map_words (set s.words (table_index number) new)) c ≡ true)
       → ((f : ℕ → ℕ) → free_weight (map_words (set s.words (table_index number) new)) (640 * n) f + weigh f u.held ≡ free_weight (map_words s.words) (640 * n) f + weigh f v.held)
       → MapHolds n (stepped s (table_index number) new id carried u keeps)
-  kept new u same_noted closed moved =
+  kept new u same_noted same_openings closed moved =
       let zero_stays : slice_index (set s.words (table_index number) new) 0 ≡ slice_index s.words 0 = get_or-set_other s.words (table_index number) 0 new 0 (λ is. index_some number (sym is)) in
       record {
         wide = length-set s.words (table_index number) new ∙ holds.wide;
         opened = open_steps n open_noted (slice_index s.words 0) (slice_index (set s.words (table_index number) new) 0) (map_words s.words) (map_words (set s.words (table_index number) new)) s.views id u (omega (arith, zero_stays)) (omega (arith, zero_stays, holds.opened.most)) (omega (arith, zero_stays, same_noted, holds.opened.seen id v at)) (λ c below_n above. closed c below_n (omega (arith, zero_stays, above))) holds.opened;
+        counted = counted_stays openings_of (slice_index s.words 0) (slice_index (set s.words (table_index number) new) 0) s.views id v u at zero_stays same_openings holds.counted;
         owned = owned_moves held_by (free_weight (map_words s.words) (640 * n)) (free_weight (map_words (set s.words (table_index number) new)) (640 * n)) (640 * n) s.views id v u at moved holds.owned;
       }
 
@@ -158,7 +166,7 @@ module _ (n number bit slots id : ℕ) (v : MapView) (carried : List (ℕ × ℕ
         with_chunk chunk v,
         keeps,
         tt,
-        kept (bit_and word mask) (with_chunk chunk v) refl
+        kept (bit_and word mask) (with_chunk chunk v) refl (λ f. omega arith)
             (λ c below_n above free. others_clear c (λ is. absurd (omega (arith, is, above, within, opened, holds.opened.seen id v at))) ∙ free)
             (λ f. omega (arith, free_taken (640 * n) (map_words s.words) (map_words (set s.words (table_index number) (bit_and word mask))) chunk chunk_below takes f)),
         (refl, λ b below_64 masks. let same : b ≡ bit = mask_of_one bit b within below_64 masks in inl (ap (bit_at word) same ∙ one, ap (λ c. with_chunk c v) (number_told b same))),
@@ -173,7 +181,7 @@ module _ (n number bit slots id : ℕ) (v : MapView) (carried : List (ℕ × ℕ
         after (Missed chunk) v,
         keeps,
         tt,
-        kept (bit_and word mask) (after (Missed chunk) v) refl
+        kept (bit_and word mask) (after (Missed chunk) v) refl (λ f. omega arith)
             (λ c below_n above free. stays c ∙ free)
             (λ f. omega (arith, free_stays (640 * n) (map_words s.words) (map_words (set s.words (table_index number) (bit_and word mask))) (λ c below_n. stays c) f)),
         (refl, λ b below_64 masks. let same : b ≡ bit = mask_of_one bit b within below_64 masks in inr (ap (bit_at word) same ∙ none_set, ap (λ c. after (Missed c) v) (number_told b same))),
@@ -201,7 +209,7 @@ module _ (n number bit slots id : ℕ) (v : MapView) (carried : List (ℕ × ℕ
         without_chunk chunk v,
         keeps,
         tt,
-        kept (bit_or word one_bit) (without_chunk chunk v) refl
+        kept (bit_or word one_bit) (without_chunk chunk v) refl (λ f. omega arith)
             (λ c below_n above free. ⊎_elim (λ is. ap (is_free (map_words (set s.words (table_index number) (bit_or word one_bit)))) is ∙ now) (λ ne. others_set c ne ∙ free) (cases_eq c chunk))
             (λ f. omega (arith, free_freed (640 * n) (map_words s.words) (map_words (set s.words (table_index number) (bit_or word one_bit))) chunk chunk_below frees f, weigh_without f chunk v.held mine)),
         (refl, λ b below_64 masks. ap (λ c. without_chunk c v) (number_told b (set_of_one bit b within below_64 masks))),
@@ -219,16 +227,21 @@ pub splits : (n id : ℕ) (v : MapView) → Splits {S = ℕ} (MapHolds n) id v v
 splits n id v s holds at = record {
   wide = holds.wide;
   opened = open_splits n open_noted (slice_index s.words 0) (map_words s.words) s.views id v (empty v.segments) (holds.opened.seen id v at) holds.opened.least holds.opened;
+  counted = counted_splits openings_of (slice_index s.words 0) s.views id v v (empty v.segments) at (λ f. omega arith) holds.counted;
   owned = owned_split held_by (free_weight (map_words s.words) (640 * n)) (640 * n) s.views id v v (empty v.segments) at (λ f. omega arith) holds.owned;
 }
 
-pub joins : (n id other : ℕ) (v w : MapView) → w.held ≡ [] → Joins {S = ℕ} (MapHolds n) id v other w v (empty 0)
+both_logs : (g : MapEvent → ℕ) (v w : MapView) → weigh g (w.log ++ w.joined ++ v.joined) ≡ weigh g w.log + weigh g w.joined + weigh g v.joined
+both_logs g v w = omega (arith, weigh-append g (w.log ++ w.joined) v.joined, weigh-append g w.log w.joined)
+
+pub joins : (n id other : ℕ) (v w : MapView) → w.held ≡ [] → Joins {S = ℕ} (MapHolds n) id v other w (together v w) (empty 0)
 joins n id other v w nothing s holds at apart there =
-    let stays : OpenPart n open_noted (slice_index s.words 0) (map_words s.words) (set s.views id v) = open_steps n open_noted (slice_index s.words 0) (slice_index s.words 0) (map_words s.words) (map_words s.words) s.views id v (omega arith) holds.opened.most (holds.opened.seen id v at) (λ c below_n above free. free) holds.opened in
+    let stays : OpenPart n open_noted (slice_index s.words 0) (map_words s.words) (set s.views id (together v w)) = open_steps n open_noted (slice_index s.words 0) (slice_index s.words 0) (map_words s.words) (map_words s.words) s.views id (together v w) (omega arith) holds.opened.most (holds.opened.seen id v at) (λ c below_n above free. free) holds.opened in
     record {
       wide = holds.wide;
-      opened = open_steps n open_noted (slice_index s.words 0) (slice_index s.words 0) (map_words s.words) (map_words s.words) (set s.views id v) other (empty 0) (omega arith) holds.opened.most holds.opened.least (λ c below_n above free. free) stays;
-      owned = owned_join held_by (free_weight (map_words s.words) (640 * n)) (640 * n) s.views id other v w v (empty 0) at there (λ f. omega (arith, ap (weigh f) nothing)) holds.owned;
+      opened = open_steps n open_noted (slice_index s.words 0) (slice_index s.words 0) (map_words s.words) (map_words s.words) (set s.views id (together v w)) other (empty 0) (omega arith) holds.opened.most holds.opened.least (λ c below_n above free. free) stays;
+      counted = counted_joins openings_of (slice_index s.words 0) s.views id other v w (together v w) (empty 0) at there (λ f. omega (arith, both_logs (opening_weight f) v w)) holds.counted;
+      owned = owned_join held_by (free_weight (map_words s.words) (640 * n)) (640 * n) s.views id other v w (together v w) (empty 0) at there (λ f. omega (arith, ap (weigh f) nothing)) holds.owned;
     }
 
 -- ---- the table at first
@@ -251,5 +264,6 @@ opens n words some_segments are =
         seen = λ k v at. omega (arith, first, ap open_noted (only_view (empty n) v k at));
         closed = λ chunk lt above. free chunk lt;
       };
+      counted = λ f. omega (arith, ap (λ (m : ℕ). below f (m + 1)) first);
       owned = λ f. omega (arith, free_all (640 * n) (map_words words) free f);
     }

@@ -1,6 +1,6 @@
 -- What a seat knows after it gained neighbouring chunks one by one, or gave them back.
-use Rattle.std.specs.Prelude.{ℕ, zero, suc, ◌+◌, ◌≡◌, List}
-use Rattle.chunk_map.specs.Looks.{open_seen, Searched}
+use Rattle.std.specs.Prelude.{ℕ, zero, suc, ◌+◌, ◌≡◌, List, true}
+use Rattle.chunk_map.specs.Looks.{open_seen, was_looked, Searched}
 use Rattle.chunk_map.specs.Views.{after, with_chunk, without_chunk}
 use Rattle.chunk_map.specs.declared.view.MapEvent.{MapEvent}
 use Rattle.chunk_map.specs.declared.view.MapEvent.TheVariants.{Missed}
@@ -24,4 +24,5 @@ tried first n v = given_back first n (after (Missed (first + n)) (gained first n
 pub record SameSearch (v v' : MapView) : Type 0 where
   pub segments : v'.segments ≡ v.segments
   pub opened : open_seen v'.log ≡ open_seen v.log
+  pub looked : (chunk : ℕ) → was_looked v.log chunk ≡ true → was_looked v'.log chunk ≡ true
   pub searched : (count : ℕ) (before : List MapEvent) → Searched count before v.log → Searched count before v'.log

@@ -1,6 +1,6 @@
 -- What a seat's events, newest first, say of chunks. The events since the newest load of the open word are those of one
 -- search.
-use Rattle.std.specs.Prelude.{ℕ, ◌/◌, ◌%◌, ◌≡◌, ◌==◌, ◌||◌, Bool, true, false, if◌then◌else◌, List, [], ◌∷◌}
+use Rattle.std.specs.Prelude.{ℕ, ◌/◌, ◌%◌, ◌≡◌, ◌==◌, ◌||◌, not, Bool, true, false, if◌then◌else◌, List, [], ◌∷◌}
 use Rattle.std.specs.Int.{bit_at}
 use Rattle.chunk_map.specs.declared.view.MapEvent.{MapEvent}
 use Rattle.chunk_map.specs.declared.view.MapEvent.TheVariants.{SawOpen, SawWord, Gained, Missed, Released, OpenedTo, FoundOpen}
@@ -39,8 +39,23 @@ seen_free (Released other ∷ events) chunk = seen_free events chunk
 seen_free (OpenedTo count ∷ events) chunk = seen_free events chunk
 seen_free (FoundOpen count ∷ events) chunk = seen_free events chunk
 
+-- the search looked at the chunk
+abbrev pub was_looked : List MapEvent → ℕ → Bool
+was_looked [] chunk = false
+was_looked (SawOpen count ∷ events) chunk = false
+was_looked (SawWord number found ∷ events) chunk = if chunk / 64 == number then true else was_looked events chunk
+was_looked (Gained other ∷ events) chunk = if other == chunk then true else was_looked events chunk
+was_looked (Missed other ∷ events) chunk = if other == chunk then true else was_looked events chunk
+was_looked (Released other ∷ events) chunk = was_looked events chunk
+was_looked (OpenedTo count ∷ events) chunk = was_looked events chunk
+was_looked (FoundOpen count ∷ events) chunk = was_looked events chunk
+
+-- the search's looks allow that the chunk is free: it found it so, or didn't look
+abbrev pub may_be_free : List MapEvent → ℕ → Bool
+may_be_free events chunk = not (was_looked events chunk) || seen_free events chunk
+
 -- The events are those before a search, then its load of the open word, which gave this number, and then the search's others,
--- none of which is such a load.
+-- none of which is such a load or an exchange of that word.
 abbrev pub Searched : ℕ → List MapEvent → List MapEvent → Type 0
 Searched opened before [] = ⊥
 Searched opened before (SawOpen count ∷ events) = (count ≡ opened) × (events ≡ before)
@@ -48,5 +63,5 @@ Searched opened before (SawWord number found ∷ events) = Searched opened befor
 Searched opened before (Gained chunk ∷ events) = Searched opened before events
 Searched opened before (Missed chunk ∷ events) = Searched opened before events
 Searched opened before (Released chunk ∷ events) = Searched opened before events
-Searched opened before (OpenedTo count ∷ events) = Searched opened before events
-Searched opened before (FoundOpen count ∷ events) = Searched opened before events
+Searched opened before (OpenedTo count ∷ events) = ⊥
+Searched opened before (FoundOpen count ∷ events) = ⊥

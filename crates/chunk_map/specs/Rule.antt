@@ -4,8 +4,8 @@ use Rattle.std.specs.Prelude.{ℕ, ◌+◌, ◌-◌, ◌*◌, ◌/◌, ◌%◌, 
 use Rattle.std.specs.Int.{bit_at, bit_not, w64}
 use Rattle.atomic_table.specs.Table.{State, Me, Step}
 use Rattle.unit_model.specs.Sharing.{Owned}
-use Rattle.chunk_map.specs.Parts.{OpenPart}
-use Rattle.chunk_map.specs.Views.{held_by, open_noted, after, with_chunk, without_chunk, opening}
+use Rattle.chunk_map.specs.Parts.{OpenPart, OpeningsCounted}
+use Rattle.chunk_map.specs.Views.{held_by, open_noted, openings_of, after, with_chunk, without_chunk, opening}
 use Rattle.chunk_map.specs.Words.{free_weight}
 use Rattle.chunk_map.specs.declared.view.MapEvent.TheVariants.{SawOpen, SawWord, Missed}
 use Rattle.chunk_map.specs.declared.view.MapView.{MapView}
@@ -23,6 +23,7 @@ map_words words number = slice_index words (table_index number)
 pub record MapHolds {S : Type 0} (segments : ℕ) (s : State S MapView) : Type 0 where
   pub wide : length s.words ≡ 16 * (segments + 1)
   pub opened : OpenPart segments open_noted (slice_index s.words 0) (map_words s.words) s.views
+  pub counted : OpeningsCounted openings_of (slice_index s.words 0) s.views
   -- each chunk is free, or with exactly one seat
   pub owned : Owned held_by (free_weight (map_words s.words) (640 * segments)) (640 * segments) s.views
 
@@ -30,7 +31,7 @@ pub record MapHolds {S : Type 0} (segments : ℕ) (s : State S MapView) : Type 0
 
 -- the number of open segments was loaded
 abbrev pub SeesOpen : {S : Type 0} → Step S → Me S MapView → ℕ → Me S MapView → Type 0
-SeesOpen st m found m' = (m'.1 ≡ m.1) × (m'.0 ≡ after (SawOpen found) m.0) × (1 ≤ found) × (found ≤ m.0.segments)
+SeesOpen st m found m' = (m'.1 ≡ m.1) × (m'.0 ≡ after (SawOpen found) m.0) × (1 ≤ found) × (open_noted m.0 ≤ found) × (found ≤ m.0.segments)
 
 -- a word of the map was loaded
 abbrev pub SeesWord : {S : Type 0} → Step S → Me S MapView → ℕ → Me S MapView → Type 0
@@ -48,4 +49,4 @@ FreesBit st m found m' = (m'.1 ≡ m.1) × ((bit : ℕ) → bit < 64 → st.firs
 
 -- the number of open segments was exchanged, or another one found
 abbrev pub OpensOne : {S : Type 0} → Step S → Me S MapView → ℕ → Me S MapView → Type 0
-OpensOne st m found m' = (m'.1 ≡ m.1) × (m'.0 ≡ after (opening st.first st.second found) m.0) × (1 ≤ found) × (found ≤ m.0.segments)
+OpensOne st m found m' = (m'.1 ≡ m.1) × (m'.0 ≡ after (opening st.first st.second found) m.0) × (1 ≤ found) × (open_noted m.0 ≤ found) × (found ≤ m.0.segments)

@@ -59,7 +59,7 @@ impl ChunkMap {
     ghost use Rattle.chunk_map.specs.Claims.{IfRun, IfFull};
     ghost use Rattle.unit_model.specs.Weights.{weigh};
     ghost use Rattle.chunk_map.specs.Gains.{gained, given_back, tried, SameSearch};
-    ghost use Rattle.chunk_map.specs.Looks.{open_seen, was_gained, seen_free, Searched};
+    ghost use Rattle.chunk_map.specs.Looks.{open_seen, was_gained, was_looked, seen_free, may_be_free, Searched};
     ghost use Rattle.chunk_map.specs.Runs.{run_chunks, AreFree, NoneBelow, IsLowest};
     ghost use Rattle.std.specs.List.{range_with_len};
     ghost use Rattle.chunk_map.specs.Search.{bit_of};
@@ -126,6 +126,7 @@ impl ChunkMap {
         ensures long { length result ≡ 10 }
         ensures words { (number : ℕ) → number < 10 → slice_index result number ≡ slice_index seen.new (10 * segment + number) }
         ensures search { SameSearch (knows seat.old) (knows seat.new) }
+        ensures looked { (chunk : ℕ) → chunk / 640 ≡ segment → was_looked (knows seat.new).log chunk ≡ true }
         ensures held { (knows seat.new).held ≡ (knows seat.old).held }
         ensures gained { (chunk : ℕ) → was_gained (knows seat.new).log chunk ≡ was_gained (knows seat.old).log chunk }
     {
@@ -156,6 +157,7 @@ impl ChunkMap {
         ensures shows { Shows seen.new (knows seat.new) }
         ensures others { (number : ℕ) → number / 10 ≢ segment → slice_index seen.new number ≡ slice_index seen.old number }
         ensures search { SameSearch (knows seat.old) (knows seat.new) }
+        ensures looked { (chunk : ℕ) → chunk / 640 ≡ segment → was_looked (knows seat.new).log chunk ≡ true }
         ensures fresh { (chunk : ℕ) → 640 * (segment + 1) ≤ chunk → was_gained (knows seat.new).log chunk ≡ false }
         ensures some { IfSome result (λ first. AreFree (is_free (slice_index seen.new)) count segment first) }
         ensures lowest { IfSome result (λ first. NoneBelow (is_free (slice_index seen.new)) count segment first) }
@@ -186,10 +188,11 @@ impl ChunkMap {
         requires own { BelongsTo seat.old self.now }
         requires size { (1 ≤ size) × (size ≤ 10485760) }
         ensures own { BelongsTo seat.new self.now }
-        ensures search { (opened : ℕ) × (opened ≤ self.now.segments) × Searched opened (knows seat.old).log (knows seat.new).log × IfRun result (λ run. run.segment < opened) × IfFull result (λ seen. seen.segments ≡ opened) }
-        ensures run { IfRun result (λ run. (run.size ≡ size) × AreFree (seen_free (knows seat.new).log) (chunks_for size) run.segment run.chunk × IsLowest (seen_free (knows seat.new).log) (chunks_for size) run.segment run.chunk) }
+        ensures search { (opened : ℕ) × (1 ≤ opened) × (open_seen (knows seat.old).log ≤ opened) × (opened ≤ self.now.segments) × Searched opened (knows seat.old).log (knows seat.new).log × IfRun result (λ run. run.segment < opened) × IfFull result (λ seen. seen.segments ≡ opened) }
+        ensures run { IfRun result (λ run. (run.size ≡ size) × AreFree (seen_free (knows seat.new).log) (chunks_for size) run.segment run.chunk × IsLowest (may_be_free (knows seat.new).log) (chunks_for size) run.segment run.chunk) }
         ensures gained { IfRun result (λ run. (f : ℕ → ℕ) → weigh f (knows seat.new).held ≡ weigh f (run_chunks run) + weigh f (knows seat.old).held) }
         ensures full { IfFull result (λ seen. Shows seen.words (knows seat.new) × HasNoRun seen (chunks_for size)) }
+        ensures looked { IfFull result (λ seen. (chunk : ℕ) → chunk < 640 * seen.segments → was_looked (knows seat.new).log chunk ≡ true) }
         ensures past { IfFull result (λ seen. (number : ℕ) → 10 * seen.segments ≤ number → slice_index seen.words number ≡ 0) }
         ensures held { IfFull result (λ seen. (knows seat.new).held ≡ (knows seat.old).held) }
     {
@@ -227,9 +230,9 @@ impl ChunkMap {
     pub fn open_more(&self, seat: &mut MapSeat) -> Opened
         requires own { BelongsTo seat.old self.now }
         ensures own { BelongsTo seat.new self.now }
-        ensures yes { (n : ℕ) → result ≡ Opened.Yes n → (2 ≤ n) × (n ≤ self.now.segments) × (knows seat.new ≡ after (OpenedTo n) (after (SawOpen (n - 1)) (knows seat.old))) }
-        ensures all { (n : ℕ) → result ≡ Opened.AllOpen n → (n ≡ self.now.segments) × (knows seat.new ≡ after (SawOpen n) (knows seat.old)) }
-        ensures other { (found : ℕ) → result ≡ Opened.Other found → (loaded : ℕ) × (loaded < self.now.segments) × (found ≢ loaded) × (knows seat.new ≡ after (FoundOpen found) (after (SawOpen loaded) (knows seat.old))) }
+        ensures yes { (n : ℕ) → result ≡ Opened.Yes n → (2 ≤ n) × (n ≤ self.now.segments) × (open_seen (knows seat.old).log ≤ n - 1) × (knows seat.new ≡ after (OpenedTo n) (after (SawOpen (n - 1)) (knows seat.old))) }
+        ensures all { (n : ℕ) → result ≡ Opened.AllOpen n → (n ≡ self.now.segments) × (open_seen (knows seat.old).log ≤ n) × (knows seat.new ≡ after (SawOpen n) (knows seat.old)) }
+        ensures other { (found : ℕ) → result ≡ Opened.Other found → (loaded : ℕ) × (1 ≤ loaded) × (open_seen (knows seat.old).log ≤ loaded) × (loaded < found) × (found ≤ self.now.segments) × (knows seat.new ≡ after (FoundOpen found) (after (SawOpen loaded) (knows seat.old))) }
     {
         let count = self.see_open(seat);
         if count == self.segments as u64 {

@@ -1,12 +1,12 @@
 //! Laws on the words of a map, and what the rule says of all seats. Each function does nothing: its contract is the law.
-ghost use Rattle.std.specs.Prelude.{◌≡◌, ◌≢◌, ◌+◌, ◌*◌, ◌/◌, ◌<◌, ◌≤◌, List, ℕ, set, true};
+ghost use Rattle.std.specs.Prelude.{◌≡◌, ◌≢◌, ◌+◌, ◌*◌, ◌/◌, ◌<◌, ◌≤◌, List, ℕ, set, slice_index, true};
 ghost use mathlib.Core.Option.{some};
 ghost use lib.ListN.{get_elem?};
 ghost use Rattle.atomic_table.specs.Table.{State};
-ghost use Rattle.unit_model.specs.Sharing.{Holds, Owned};
+ghost use Rattle.unit_model.specs.Weights.{weigh, is_number, one_if};
 ghost use Rattle.chunk_map.specs.Parts.{OpenPart};
 ghost use Rattle.chunk_map.specs.Rule.{MapHolds, map_words};
-ghost use Rattle.chunk_map.specs.Views.{held_by};
+ghost use Rattle.chunk_map.specs.Views.{held_by, openings_of};
 ghost use Rattle.chunk_map.specs.Words.{is_free, free_weight, Takes, Frees, Stays};
 ghost use Rattle.chunk_map.specs.declared.view.MapView.{MapView};
 
@@ -33,8 +33,19 @@ pub fn open_part_steps()
         → OpenPart segments (λ v. v) opened word views → OpenPart segments (λ v. v) opened' word' (set views k u) }
 {}
 
-/// Between any two steps no chunk is with two seats, nor is a free chunk with one.
-pub fn one_seat_a_chunk()
-    ensures apart { (n : ℕ) (s : State ℕ MapView) → MapHolds n s → (j : ℕ) (k : ℕ) (v : MapView) (w : MapView) → j ≢ k → get_elem? s.views j ≡ some v → get_elem? s.views k ≡ some w → (chunk : ℕ) → chunk < 640 * n → Holds held_by chunk v → ¬ (Holds held_by chunk w) }
-    ensures not_free { (n : ℕ) (s : State ℕ MapView) → MapHolds n s → (k : ℕ) (v : MapView) → get_elem? s.views k ≡ some v → (chunk : ℕ) → chunk < 640 * n → Holds held_by chunk v → ¬ (is_free (map_words s.words) chunk ≡ true) }
+/// Between any two steps each chunk is free, or with exactly one seat, once.
+pub fn each_chunk_is_in_one_place()
+    ensures { (n : ℕ) (s : State ℕ MapView) → MapHolds n s → (chunk : ℕ) → chunk < 640 * n → one_if (is_free (map_words s.words) chunk) + weigh (held_by (is_number chunk)) s.views ≡ 1 }
+{}
+
+/// Between any two steps each chunk of a segment that isn't open is free.
+pub fn closed_segments_are_free()
+    ensures { (n : ℕ) (s : State ℕ MapView) → MapHolds n s → (chunk : ℕ) → chunk < 640 * n → slice_index s.words 0 ≤ chunk / 640 → is_free (map_words s.words) chunk ≡ true }
+{}
+
+/// The number of open segments was 1 at first: each number from 2 up to it was made by exactly one exchange, and no higher one.
+pub fn each_segment_is_opened_once()
+    ensures opened { (n : ℕ) (s : State ℕ MapView) → MapHolds n s → (count : ℕ) → 2 ≤ count → count ≤ slice_index s.words 0 → weigh (openings_of (is_number count)) s.views ≡ 1 }
+    ensures closed { (n : ℕ) (s : State ℕ MapView) → MapHolds n s → (count : ℕ) → slice_index s.words 0 < count → weigh (openings_of (is_number count)) s.views ≡ 0 }
+    ensures some { (n : ℕ) (s : State ℕ MapView) → MapHolds n s → (1 ≤ slice_index s.words 0) × (slice_index s.words 0 ≤ n) }
 {}

@@ -14,9 +14,11 @@ mod view;
 
 pub use claim::{Claim, Opened};
 pub use laws::{
-    free_weight_falls, free_weight_rises, free_weight_stays, one_seat_a_chunk, open_part_steps,
+    closed_segments_are_free, each_chunk_is_in_one_place, each_segment_is_opened_once,
+    free_weight_falls, free_weight_rises, free_weight_stays, open_part_steps,
 };
 pub use map::ChunkMap;
+pub use search::{first_from, run_starts};
 pub use seat::MapSeat;
 pub use view::{MapEvent, MapView};
 

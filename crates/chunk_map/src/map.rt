@@ -72,9 +72,9 @@ impl Split<MapView> for Apart {
 struct Together;
 
 impl Join<MapView> for Together {
-    ghost use Rattle.chunk_map.specs.Views.{empty};
+    ghost use Rattle.chunk_map.specs.Views.{empty, together};
 
-    ghost both = { λ v w. v };
+    ghost both = { together };
 
     ghost spent = { empty 0 };
 }
@@ -90,11 +90,11 @@ pub struct ChunkMap {
 impl ChunkMap {
     ghost use Rattle.std.specs.Int.{bit_at};
     ghost use Rattle.chunk_map.specs.Looks.{open_seen};
-    ghost use Rattle.chunk_map.specs.Views.{empty, after, with_chunk, without_chunk, opening};
+    ghost use Rattle.chunk_map.specs.Views.{empty, together, after, with_chunk, without_chunk, opening};
     ghost use Rattle.chunk_map.specs.Seats.{BelongsTo, HoldsChunk, knows};
     ghost use Rattle.chunk_map.specs.declared.view.MapEvent.TheVariants.{SawOpen, SawWord, Missed};
 
-    /// A map whose chunks are all free, and a seat that holds none.
+    /// A map whose chunks are all free, with one segment open, and a seat that holds none.
     pub fn open(alloc: Global, segments: u32) -> Result<(ChunkMap, MapSeat), AllocError>
         requires { (1 ≤ segments) × (segments ≤ 8) }
         ensures { IfOk result (λ r. (r.0.segments ≡ segments) × BelongsTo r.1 r.0 × (knows r.1 ≡ empty segments)) }
@@ -119,12 +119,12 @@ impl ChunkMap {
         }
     }
 
-    /// Ends a seat that holds nothing.
+    /// Ends a seat that holds nothing. What it did stays counted with the first one.
     pub fn join(&self, seat: &mut MapSeat, other: MapSeat)
         requires own { BelongsTo seat.old self.now × BelongsTo other self.now }
         requires none { (knows other).held ≡ [] }
         ensures own { BelongsTo seat.new self.now }
-        ensures kept { knows seat.new ≡ knows seat.old }
+        ensures view { knows seat.new ≡ together (knows seat.old) (knows other) }
     {
         let table = &self.table;
         let shared = &table.shared;
@@ -136,7 +136,7 @@ impl ChunkMap {
     pub(crate) fn see_open(&self, seat: &mut MapSeat) -> u64
         requires own { BelongsTo seat.old self.now }
         ensures own { BelongsTo seat.new self.now }
-        ensures count { (1 ≤ result) × (result ≤ self.now.segments) }
+        ensures count { (1 ≤ result) × (open_seen (knows seat.old).log ≤ result) × (result ≤ self.now.segments) }
         ensures view { knows seat.new ≡ after (SawOpen result) (knows seat.old) }
     {
         let table = &self.table;
@@ -196,7 +196,7 @@ impl ChunkMap {
         requires own { BelongsTo seat.old self.now }
         requires count { (1 ≤ count) × (count < self.now.segments) }
         ensures own { BelongsTo seat.new self.now }
-        ensures count { (1 ≤ result) × (result ≤ self.now.segments) }
+        ensures count { (1 ≤ result) × (open_seen (knows seat.old).log ≤ result) × (result ≤ self.now.segments) }
         ensures view { knows seat.new ≡ after (opening count (count + 1) result) (knows seat.old) }
     {
         let table = &self.table;

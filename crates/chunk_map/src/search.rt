@@ -40,8 +40,9 @@ fn both(starts: &[u64; WORDS], by: usize) -> [u64; WORDS]
     out
 }
 
-/// The places where so many set bits begin.
-pub(crate) fn run_starts(words: &[u64; WORDS], count: usize) -> [u64; WORDS]
+/// Bits for the places of ten words, taken as 640 bits, at which so many set bits begin: a segment in which a set bit is a free
+/// chunk has its runs there.
+pub fn run_starts(words: &[u64; WORDS], count: usize) -> [u64; WORDS]
     requires { (1 ≤ count) × (count ≤ 640) }
     ensures { (place : ℕ) → (bit_of result place ≡ 1) ↔ AllSet words.now place count }
 {
@@ -55,8 +56,8 @@ pub(crate) fn run_starts(words: &[u64; WORDS], count: usize) -> [u64; WORDS]
     starts
 }
 
-/// The first set bit from a place on.
-pub(crate) fn first_from(words: &[u64; WORDS], from: usize) -> Option<usize>
+/// The first set bit from a place on, of ten words taken as 640 bits.
+pub fn first_from(words: &[u64; WORDS], from: usize) -> Option<usize>
     ensures some { IfSome result (λ place. (from ≤ place) × (place < 640) × (bit_of words.now place ≡ 1) × NoneSet words.now from place) }
     ensures none { IfNone result (NoneSet words.now from 640) }
 {

@@ -19,9 +19,11 @@ pub enum MapEvent {
     FoundOpen(u64),
 }
 
-/// How many segments the map has, the chunks that the seat holds, and what it did, newest first. No value of it is made.
+/// How many segments the map has, the chunks that the seat holds, what it did, newest first, and what was done by seats that it
+/// has joined. No value of it is made.
 pub struct MapView {
     pub segments: u32,
     pub held: LinkedList<u32>,
     pub log: LinkedList<MapEvent>,
+    pub joined: LinkedList<MapEvent>,
 }

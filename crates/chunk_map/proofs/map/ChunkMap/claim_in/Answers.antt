@@ -1,7 +1,7 @@
 use Rattle.std.proofs.Common.{ℕ, ◌+◌, ◌*◌, ◌<◌, ◌∙◌, inr, sym, ap, subst, arith}
 use Rattle.chunk_map.specs.declared.view.MapView.{MapView}
 use Rattle.chunk_map.specs.Gains.{SameSearch}
-use Rattle.chunk_map.specs.Looks.{was_gained}
+use Rattle.chunk_map.specs.Looks.{was_gained, was_looked}
 use Rattle.chunk_map.specs.Seats.{Shows, knows}
 use Rattle.unit_model.specs.Weights.{weigh}
 use Rattle.chunk_map.proofs.ClaimLaws.{Trying, starts_first, none_here, shows_run, tried_on}
@@ -16,6 +16,7 @@ loop-first-init c =
       record {
         held = looked.held;
         search = looked.search;
+        looked = looked.looked;
         fresh = λ chunk from. looked.gained chunk ∙ c.requires.fresh chunk (omega (arith, from));
         shows = looked.shows;
         others = looked.others;
@@ -69,6 +70,13 @@ returns-then-gained-count-clause-search c =
     let first : ℕ = 640 * c.args.segment + c.in-Some.first in
     let view = c.gain-gained.ensures.all c.if-gained-count.true in
     subst (λ (u : MapView). SameSearch (knows c.args.seat.now) u) (sym view) (search_on (knows c.args.seat.now) (knows c.loop-first.seat) _ trying.search (search_gained first c.args.count (knows c.loop-first.seat)))
+
+pub returns-then-gained-count-clause-looked : goal.returns-then-gained-count-clause-looked
+returns-then-gained-count-clause-looked c chunk is =
+    let trying = c.loop-first.invariant.2 in
+    let first : ℕ = 640 * c.args.segment + c.in-Some.first in
+    let view = c.gain-gained.ensures.all c.if-gained-count.true in
+    ap (λ (u : MapView). was_looked u.log chunk) view ∙ (search_gained first c.args.count (knows c.loop-first.seat)).looked chunk (trying.looked chunk is)
 
 pub returns-then-gained-count-clause-fresh : goal.returns-then-gained-count-clause-fresh
 returns-then-gained-count-clause-fresh c chunk from =

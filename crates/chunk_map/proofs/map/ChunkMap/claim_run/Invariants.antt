@@ -1,7 +1,7 @@
-use Rattle.std.proofs.Common.{ℕ, ◌≡◌, ◌*◌, ◌<◌, ◌≤◌, slice_index, false}
+use Rattle.std.proofs.Common.{ℕ, ◌≡◌, ◌*◌, ◌<◌, ◌≤◌, slice_index, false, true}
 use Rattle.unit_model.specs.Runs.{chunks_for}
 use Rattle.chunk_map.specs.Gains.{SameSearch}
-use Rattle.chunk_map.specs.Looks.{was_gained}
+use Rattle.chunk_map.specs.Looks.{was_gained, was_looked}
 use Rattle.chunk_map.specs.Runs.{NoneBelow}
 use Rattle.chunk_map.specs.Seats.{BelongsTo, Shows, knows}
 use Rattle.chunk_map.specs.Views.{after}
@@ -18,3 +18,4 @@ invariant-loop-segment l =
     × ((chunk : ℕ) → 640 * l.segment ≤ chunk → was_gained (knows l.seat).log chunk ≡ false)
     × ((earlier : ℕ) → earlier < l.segment → NoneBelow (is_free (slice_index l.words)) (chunks_for l.size) earlier 640)
     × ((number : ℕ) → 10 * l.segment ≤ number → slice_index l.words number ≡ 0)
+    × ((chunk : ℕ) → chunk < 640 * l.segment → was_looked (knows l.seat).log chunk ≡ true)

@@ -1,6 +1,6 @@
-use Rattle.std.proofs.Common.{ℕ, ◌≡◌, ◌≢◌, ◌+◌, ◌*◌, ◌/◌, ◌<◌, length, slice_index}
+use Rattle.std.proofs.Common.{ℕ, ◌≡◌, ◌≢◌, ◌+◌, ◌*◌, ◌/◌, ◌<◌, ◌≤◌, true, length, slice_index}
 use Rattle.chunk_map.specs.Gains.{SameSearch}
-use Rattle.chunk_map.specs.Looks.{was_gained}
+use Rattle.chunk_map.specs.Looks.{was_gained, was_looked}
 use Rattle.chunk_map.specs.Seats.{BelongsTo, Shows, knows}
 use Rattle.chunk_map.proofs.map.ChunkMap.look.Given as goal
 
@@ -15,3 +15,4 @@ invariant-loop-number l =
     × SameSearch (knows l.fn.seat) (knows l.seat)
     × ((knows l.seat).held ≡ (knows l.fn.seat).held)
     × ((chunk : ℕ) → was_gained (knows l.seat).log chunk ≡ was_gained (knows l.fn.seat).log chunk)
+    × ((chunk : ℕ) → 10 * l.segment ≤ chunk / 64 → chunk / 64 < 10 * l.segment + l.number → was_looked (knows l.seat).log chunk ≡ true)
