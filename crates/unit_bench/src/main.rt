@@ -8,12 +8,13 @@ mod maps;
 mod records;
 mod rings;
 mod timing;
+mod traces;
 mod trees;
 
 use std::{env, io};
 
 const WORDS: &str =
-    "read-input normal-path matches expand write-record read-record trees ring-alone ring-shared claim";
+    "read-input normal-path matches expand write-record read-record trees ring-alone ring-shared claim check-trace";
 
 fn run(rt: &HostRuntime, word: &str) -> io::Result<()> {
     match word {
@@ -34,6 +35,7 @@ fn main(rt: HostRuntime) -> io::Result<()> {
             "ring-alone" => rings::alone(&rt, rt.alloc()),
             "ring-shared" => rings::shared(&rt, rt.alloc()),
             "claim" => maps::claims(&rt, rt.alloc()),
+            "check-trace" => traces::measure(&rt),
             word => run(&rt, word),
         },
         None => println!(rt; "{WORDS}"),
