@@ -31,21 +31,24 @@ places_last n entry from (suc k) =
 
 -- ---- what an entry's cycle says of the logical tail
 
--- An entry with the cycle before that of t says that the logical tail isn't above t: no later place of its slot is filled.
-pub not_above : (n : ℕ) (w : Words) → IsWellFormed n w → (t p fuel : ℕ) → logical_tail n w ≤ p + fuel → t ≤ p → p % n ≡ t % n → p < logical_tail n w → w.entry (t % n) / n + 1 ≡ t / n → ¬ (0 < n)
-not_above n w fine t p zero near le slot lt before pos = absurd (omega (arith, near, lt))
-not_above n w fine t p (suc fuel) near le slot lt before pos =
+-- A place below the logical tail has its cycle in its slot, or a later one: that of the last place of the slot that is filled.
+cycle_from : (n : ℕ) (w : Words) → IsWellFormed n w → (t p fuel : ℕ) → logical_tail n w ≤ p + fuel → t ≤ p → p % n ≡ t % n → p < logical_tail n w → t / n ≤ w.entry (t % n) / n
+cycle_from n w fine t p zero near le slot lt = absurd (omega (arith, near, lt))
+cycle_from n w fine t p (suc fuel) near le slot lt =
     elim (cases_lt (p + n) (logical_tail n w)) [
-      | inl far ↦ not_above n w fine t (p + n) fuel (omega (arith, near, pos)) (omega (arith, le)) (turned_slot n p pos ∙ slot) far before pos
+      | inl far ↦ cycle_from n w fine t (p + n) fuel (omega (arith, near, fine.size)) (omega (arith, le)) (turned_slot n p fine.size ∙ slot) far
       | inr last ↦
           let here : w.entry (t % n) / n ≡ p / n = ap (λ (j : ℕ). w.entry j / n) (sym slot) ∙ fine.cycles p lt last in
-          absurd (omega (arith, here, before, cycles_rise n t p pos le))
+          omega (arith, here, cycles_rise n t p fine.size le)
     ]
+
+pub not_lower : (n : ℕ) (w : Words) → IsWellFormed n w → (t : ℕ) → t < logical_tail n w → t / n ≤ w.entry (t % n) / n
+not_lower n w fine t lt = cycle_from n w fine t t (logical_tail n w) (omega arith) (omega arith) refl lt
 
 pub tail_at : (n : ℕ) (w : Words) (t : ℕ) → IsWellFormed n w → t ≤ w.tail → w.entry (t % n) / n + 1 ≡ t / n → (logical_tail n w ≡ t) × (w.tail ≡ t)
 tail_at n w t fine seen before =
     elim (cases_lt t (logical_tail n w)) [
-      | inl above ↦ absurd (not_above n w fine t t (logical_tail n w) (omega arith) (omega arith) refl above before fine.size)
+      | inl above ↦ absurd (omega (arith, before, not_lower n w fine t above))
       | inr le ↦ ⊎_elim
           (λ open_tail. (omega (arith, le, seen, open_tail), omega (arith, le, seen, open_tail)))
           (λ full. absurd (omega (arith, le, seen, full)))
@@ -104,7 +107,7 @@ module _ (n t v : ℕ) (w w' : Words) (fine : IsWellFormed n w) (seen : t ≤ w.
 
 -- ---- a won tail exchange, where the entry at the tail has its cycle
 
-next_open : (n : ℕ) (w : Words) → IsWellFormed n w → w.entry (logical_tail n w % n) / n + 1 ≡ logical_tail n w / n
+pub next_open : (n : ℕ) (w : Words) → IsWellFormed n w → w.entry (logical_tail n w % n) / n + 1 ≡ logical_tail n w / n
 next_open n w fine =
     let next : ℕ = logical_tail n w in
     let p : ℕ = next - n in

@@ -1,5 +1,5 @@
 -- What a look shows, and that notes stay true.
-use Rattle.std.proofs.Common.{ℕ, zero, suc, ◌+◌, ◌-◌, ◌/◌, ◌%◌, ◌≡◌, ◌≤◌, ◌<◌, inl, inr, ⊎_elim, List, [], ◌∷◌, refl, sym, ap, ◌∙◌, arith}
+use Rattle.std.proofs.Common.{ℕ, zero, suc, ◌+◌, ◌-◌, ◌/◌, ◌%◌, ◌≡◌, ◌≤◌, ◌<◌, inl, inr, ⊎_elim, List, [], ◌∷◌, refl, sym, ap, ◌∙◌, subst, arith}
 use Rattle.std.proofs.lemmas.Bool.{cases_eq, cases_lt}
 use Rattle.nncq_ring.specs.declared.view.RingEvent.{RingEvent}
 use Rattle.nncq_ring.specs.declared.view.RingEvent.TheVariants.{SawTail, SawHead, SawEntry, Pushed, Popped}
@@ -7,7 +7,7 @@ use Rattle.nncq_ring.specs.Words.{Words, logical_tail, IsWellFormed, places, lin
 use Rattle.nncq_ring.specs.Later.{Later}
 use Rattle.nncq_ring.specs.Notes.{EntryNoted, Noted, AllNoted}
 use Rattle.nncq_ring.proofs.Numbers.{turned_slot, turned_cycle, cycles_rise}
-use Rattle.nncq_ring.proofs.Exchanges.{tail_open, not_above}
+use Rattle.nncq_ring.proofs.Exchanges.{tail_open, not_lower, next_open}
 
 no_places : (n : ℕ) (w : Words) → logical_tail n w ≡ w.head → line_of n w ≡ []
 no_places n w is = let none_left : logical_tail n w - w.head ≡ 0 = omega (arith, is) in ap (places n w.entry w.head) none_left
@@ -15,17 +15,17 @@ no_places n w is = let none_left : logical_tail n w - w.head ≡ 0 = omega (arit
 pub empty_seen : (n h : ℕ) (w : Words) → IsWellFormed n w → h ≤ w.head → w.entry (h % n) / n + 1 ≡ h / n → (w.head ≡ h) × (logical_tail n w ≡ h) × (line_of n w ≡ [])
 empty_seen n h w fine seen before =
     elim (cases_lt h (logical_tail n w)) [
-      | inl above ↦ absurd (not_above n w fine h h (logical_tail n w) (omega arith) (omega arith) refl above before fine.size)
+      | inl above ↦ absurd (omega (arith, before, not_lower n w fine h above))
       | inr le ↦
           let at : w.head ≡ h = omega (arith, le, seen, fine.front) in
           let next : logical_tail n w ≡ h = omega (arith, le, seen, fine.front) in
           (at, next, no_places n w (next ∙ sym at))
     ]
 
--- A place from the logical tail on hasn't its cycle in its slot: the last place of the slot that is filled has a lower one.
-not_filled : (n : ℕ) (w : Words) → IsWellFormed n w → (t q fuel : ℕ) → q ≤ fuel → q ≤ t → q % n ≡ t % n → logical_tail n w ≤ q → ¬ (w.entry (t % n) / n ≡ t / n)
-not_filled n w fine t q zero small le slot high has = absurd (omega (arith, small, high, fine.front, fine.turned, fine.size))
-not_filled n w fine t q (suc fuel) small le slot high has =
+-- A place from the logical tail on has an earlier cycle in its slot: that of the last place of the slot that is filled.
+cycle_below : (n : ℕ) (w : Words) → IsWellFormed n w → (t q fuel : ℕ) → q ≤ fuel → q ≤ t → q % n ≡ t % n → logical_tail n w ≤ q → w.entry (t % n) / n < t / n
+cycle_below n w fine t q zero small le slot high = absurd (omega (arith, small, high, fine.front, fine.turned, fine.size))
+cycle_below n w fine t q (suc fuel) small le slot high =
     let p : ℕ = q - n in
     let turn : p + n ≡ q = omega (arith, high, fine.front, fine.turned) in
     let slot' : p % n ≡ t % n = sym (turned_slot n p fine.size) ∙ ap (λ (m : ℕ). m % n) turn ∙ slot in
@@ -33,15 +33,40 @@ not_filled n w fine t q (suc fuel) small le slot high has =
       | inl last ↦
           let here : w.entry (t % n) / n ≡ p / n = ap (λ (j : ℕ). w.entry j / n) (sym slot') ∙ fine.cycles p last (omega (arith, high, turn)) in
           let cycle : q / n ≡ p / n + 1 = ap (λ (m : ℕ). m / n) (sym turn) ∙ turned_cycle n p fine.size in
-          absurd (omega (arith, here, has, cycle, cycles_rise n q t fine.size le))
-      | inr le' ↦ not_filled n w fine t p fuel (omega (arith, small, turn, fine.size)) (omega (arith, le, turn)) slot' le' has
+          omega (arith, here, cycle, cycles_rise n q t fine.size le)
+      | inr le' ↦ cycle_below n w fine t p fuel (omega (arith, small, turn, fine.size)) (omega (arith, le, turn)) slot' le'
     ]
+
+pub lower : (n t : ℕ) (w : Words) → IsWellFormed n w → logical_tail n w ≤ t → w.entry (t % n) / n < t / n
+lower n t w fine le = cycle_below n w fine t t t (omega arith) (omega arith) refl le
 
 pub full_seen : (n t : ℕ) (w : Words) → IsWellFormed n w → w.entry (t % n) / n ≡ t / n → t < logical_tail n w
 full_seen n t w fine has =
     elim (cases_lt t (logical_tail n w)) [
       | inl lt ↦ lt
-      | inr le ↦ absurd (not_filled n w fine t t t (omega arith) (omega arith) refl le has)
+      | inr le ↦ absurd (omega (arith, has, lower n t w fine le))
+    ]
+
+-- An entry with a later cycle than its place shows that the head has passed the place.
+pub passed_seen : (n t : ℕ) (w : Words) → IsWellFormed n w → t / n < w.entry (t % n) / n → t < w.head
+passed_seen n t w fine later =
+    elim (cases_lt t w.head) [
+      | inl lt ↦ lt
+      | inr le ↦ elim (cases_lt t (logical_tail n w)) [
+        | inl last ↦ absurd (omega (arith, later, fine.cycles t last (omega (arith, fine.room, le))))
+        | inr high ↦ absurd (omega (arith, later, lower n t w fine high))
+      ]
+    ]
+
+-- Up to the logical tail, no slot has a cycle below the one before its place's.
+pub near_cycle : (n t : ℕ) (w : Words) → IsWellFormed n w → t ≤ logical_tail n w → t / n ≤ w.entry (t % n) / n + 1
+near_cycle n t w fine le =
+    elim (cases_lt t (logical_tail n w)) [
+      | inl lt ↦ omega (arith, not_lower n w fine t lt)
+      | inr high ↦
+          let last : logical_tail n w ≡ t = omega (arith, le, high) in
+          let before : w.entry (t % n) / n + 1 ≡ t / n = subst (λ (m : ℕ). w.entry (m % n) / n + 1 ≡ m / n) last (next_open n w fine) in
+          omega (arith, before)
     ]
 
 pub may_help : (n t : ℕ) (w : Words) → w.tail ≡ t → t < logical_tail n w → w.entry (w.tail % n) / n ≡ w.tail / n
@@ -76,7 +101,7 @@ starts n w pos turned same filled =
     )
 
 pub look_noted : (n place : ℕ) (w : Words) → IsWellFormed n w → EntryNoted n w place (w.entry (place % n))
-look_noted n place w fine = record { filled = λ has. inl refl; above = λ has. full_seen n place w fine has; vacant = λ has. inl refl }
+look_noted n place w fine = record { filled = λ has. inl refl; above = λ has. full_seen n place w fine has; vacant = λ has. inl refl; passed = λ later. passed_seen n place w fine later }
 
 entry_stays : (n place x : ℕ) (w w' : Words) → Later n w w' → EntryNoted n w place x → EntryNoted n w' place x
 entry_stays n place x w w' later noted = record {
@@ -89,6 +114,7 @@ entry_stays n place x w w' later noted = record {
       (λ is. ⊎_elim (λ same. inl (same ∙ is)) (λ taken. inr taken) (later.vacant place (ap (λ (m : ℕ). m / n + 1) is ∙ has)))
       (λ taken. inr (omega (arith, taken, later.next)))
       (noted.vacant has);
+  passed = λ more. omega (arith, noted.passed more, later.head);
 }
 
 note_stays : (n : ℕ) (w w' : Words) (e : RingEvent) → Later n w w' → Noted n w e → Noted n w' e

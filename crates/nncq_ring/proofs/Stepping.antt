@@ -19,11 +19,11 @@ use Rattle.nncq_ring.specs.Words.{Words, entry_of, logical_tail, line_of, SetsEn
 use Rattle.nncq_ring.specs.Notes.{EntryNoted, Noted}
 use Rattle.nncq_ring.specs.RingWords.{ring_words}
 use Rattle.nncq_ring.specs.Views.{held_by, events_of, push_weight, pop_weight, pushes_of, pops_of, empty, after, without, together, given, taken}
-use Rattle.nncq_ring.specs.Rule.{RingHolds, line_weight, SeesTail, SeesHead, SeesEntry, Puts, Takes, Helps, ShowsFilled}
+use Rattle.nncq_ring.specs.Rule.{RingHolds, line_weight, SeesTail, SeesHead, SeesEntry, Puts, Takes, Helps, SawPlace, ShowsFilled}
 use Rattle.nncq_ring.proofs.Exchanges.{tail_at, tail_cases, pushed_tail, pushed_line, helped_tail, helped_line, popped_tail, popped_line}
 use Rattle.nncq_ring.proofs.Rising.{room_left}
 use Rattle.nncq_ring.specs.Moments.{Meets, WasEmpty}
-use Rattle.nncq_ring.proofs.Noting.{empty_seen, look_noted, may_help, may_take}
+use Rattle.nncq_ring.proofs.Noting.{empty_seen, look_noted, may_help, may_take, near_cycle}
 use Rattle.nncq_ring.proofs.RingParts.{note_at, part_steps, part_pushes, part_helps, part_pops, part_splits, part_joins}
 use Rattle.nncq_ring.proofs.RingWords.{stays_later, sets_entry, sets_tail, sets_head}
 use Rattle.nncq_ring.proofs.Sharing.{owned_moves, held_small, moved_stays, moved_moves, emptied_stays, emptied_one}
@@ -87,10 +87,19 @@ module _ (key : ℕ × ℕ) (slots id : ℕ) (v : RingView) (carried : List (ℕ
       let empty_now = empty_seen key.0 place now holds.part.fine noted before in
       record { words = now; met = met; head = empty_now.0; line = empty_now.2 }
 
+  near : (place : ℕ) → SawPlace place v.log → place / key.0 ≤ now.entry (place % key.0) / key.0 + 1
+  near place seen =
+      let noted : (e : RingEvent) → get_elem? v.log 0 ≡ mathlib.Core.Option.some e → Noted key.0 now e = λ e first. note_at key.0 now (events_of v) 0 e (at_longer v.log v.joined 0 e first) (holds.part.noted id v at) in
+      let below_next : place ≤ logical_tail key.0 now = ⊎_elim
+      (λ tail. let most : place ≤ now.tail = noted (SawTail place) tail in ⊎_elim (λ is. omega (arith, is, most)) (λ is. omega (arith, is, most)) (tail_cases key.0 now))
+      (λ head. let most : place ≤ now.head = noted (SawHead place) head in omega (arith, most, holds.part.fine.front))
+      seen in
+      near_cycle key.0 place now holds.part.fine below_next
+
   pub sees_entry : (place : ℕ) → After (48 + place % key.0) (now.entry (place % key.0)) (SeesEntry key.0 place (step slots (48 + place % key.0) 0 0 none) (v, carried) (now.entry (place % key.0)))
   sees_entry place =
       let found : ℕ = now.entry (place % key.0) in
-      (after (SawEntry place found) v, keeps, tt, looked (48 + place % key.0) (SawEntry place found) (look_noted key.0 place now holds.part.fine) (λ g. refl) (λ g. refl), (refl, refl, λ seen before. was_empty place seen before))
+      (after (SawEntry place found) v, keeps, tt, looked (48 + place % key.0) (SawEntry place found) (look_noted key.0 place now holds.part.fine) (λ g. refl) (λ g. refl), (refl, refl, λ seen. near place seen, λ seen before. was_empty place seen before))
 
   -- ---- an entry exchange
 

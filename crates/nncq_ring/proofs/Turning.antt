@@ -34,7 +34,7 @@ push_lost_looked n v u u' place entry lost before =
     ⊎_elim
     (λ filled. let past : IsPast place (seen_tail place entry u) u' = filled.1 in subst (HasLooked v) (sym past.2) (looked_more (SawTail past.0) v (seen_tail place entry u) tt seen))
     (λ rest. ⊎_elim
-    (λ old. subst (HasLooked v) (sym old.2) seen)
+    (λ old. subst (HasLooked v) (sym old.1) seen)
     (λ other. subst (HasLooked v) (sym other.3) (looked_more (SawEntry place other.1) v (seen_tail place entry u) tt seen))
     rest)
     lost.cause
@@ -43,6 +43,6 @@ pub pop_lost_looked : (n : ℕ) (v u u' : RingView) (place entry : ℕ) → IsPo
 pop_lost_looked n v u u' place entry lost before =
     let seen : HasLooked v (seen_head place entry u) = looked_head place entry v u before in
     ⊎_elim
-    (λ old. subst (HasLooked v) (sym old.2) seen)
+    (λ old. subst (HasLooked v) (sym old.1) seen)
     (λ other. subst (HasLooked v) (sym other.3) (looked_more (SawHead other.1) v (seen_head place entry u) tt seen))
     lost

@@ -11,6 +11,7 @@ pub record EntryNoted (n : ℕ) (w : Words) (place x : ℕ) : Type 0 where
   pub filled : x / n ≡ place / n → (w.entry (place % n) ≡ x) ⊎ (place < w.head)
   pub above : x / n ≡ place / n → place < logical_tail n w
   pub vacant : x / n + 1 ≡ place / n → (w.entry (place % n) ≡ x) ⊎ (place < logical_tail n w)
+  pub passed : place / n < x / n → place < w.head
 
 abbrev pub Noted : ℕ → Words → RingEvent → Type 0
 Noted n w (SawTail t) = t ≤ w.tail

@@ -46,9 +46,14 @@ SeesTail st m found m' = (m'.1 ≡ m.1) × (found ≤ 2 ^ 62) × (m'.0 ≡ after
 abbrev pub SeesHead : {S : Type 0} → Step S → Me S RingView → ℕ → Me S RingView → Type 0
 SeesHead st m found m' = (m'.1 ≡ m.1) × (found ≤ 2 ^ 62) × (m'.0 ≡ after (SawHead found) m.0)
 
--- The entry at the place was loaded. Where the head was seen to be this place, the cycle before shows that the line is empty.
+-- the newest event shows that the tail or the head was this place
+abbrev pub SawPlace : ℕ → List RingEvent → Type 0
+SawPlace place log = (get_elem? log 0 ≡ some (SawTail place)) ⊎ (get_elem? log 0 ≡ some (SawHead place))
+
+-- The entry at the place was loaded. Where the tail or the head was seen to be this place, its cycle is at least the one before.
+-- Where the head was, the cycle before shows that the line is empty.
 abbrev pub SeesEntry : ℕ → ℕ → {S : Type 0} → Step S → Me S RingView → ℕ → Me S RingView → Type 0
-SeesEntry n place st m found m' = (m'.1 ≡ m.1) × (m'.0 ≡ after (SawEntry place found) m.0) × (get_elem? m.0.log 0 ≡ some (SawHead place) → found / n + 1 ≡ place / n → WasEmpty n place m.0)
+SeesEntry n place st m found m' = (m'.1 ≡ m.1) × (m'.0 ≡ after (SawEntry place found) m.0) × (SawPlace place m.0.log → place / n ≤ found / n + 1) × (get_elem? m.0.log 0 ≡ some (SawHead place) → found / n + 1 ≡ place / n → WasEmpty n place m.0)
 
 -- the value was put at the place, or the exchange found another entry there
 abbrev pub Puts : ℕ → ℕ → ℕ → {S : Type 0} → Step S → Me S RingView → ℕ → Me S RingView → Type 0

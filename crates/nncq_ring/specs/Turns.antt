@@ -18,12 +18,12 @@ pub record IsDone (n value : ℕ) (v v' : RingView) (place : ℕ) : Type 0 where
   pub last : PutLast n place value (seen_tail place entry v)
   pub told : IsPast place (given place value (seen_tail place entry v)) v'
 
--- Lost: the slot was filled already, and then the tail is past the place; or the slot has another cycle, since the tail that was
--- read is too old; or the exchange found another entry.
+-- Lost: the slot was filled already, and then the tail is past the place; or the slot has a later cycle, which shows that the
+-- head is past the place; or the exchange found another entry.
 pub record IsPushLost (n : ℕ) (v v' : RingView) (place entry : ℕ) : Type 0 where
   pub fresh : place < 2 ^ 62
   pub cause : ((entry / n ≡ place / n) × IsPast place (seen_tail place entry v) v')
-      ⊎ (((entry / n ≢ place / n) × (entry / n + 1 ≢ place / n) × (v' ≡ seen_tail place entry v))
+      ⊎ (((place / n < entry / n) × (v' ≡ seen_tail place entry v))
       ⊎ ((entry / n + 1 ≡ place / n) × (found : ℕ) × (found ≢ entry) × (v' ≡ after (SawEntry place found) (seen_tail place entry v))))
 
 -- Worn: the tail was 2^62 or more.
@@ -47,10 +47,10 @@ pub record IsEmpty (n : ℕ) (v v' : RingView) (place entry : ℕ) : Type 0 wher
   pub was : WasEmpty n place (after (SawHead place) v)
   pub told : v' ≡ seen_head place entry v
 
--- Lost: the slot has another cycle, since the head that was read is too old; or the exchange found another head.
+-- Lost: the slot has a later cycle, which shows that the head is past the place; or the exchange found another head.
 abbrev pub IsPopLost : ℕ → RingView → RingView → ℕ → ℕ → Type 0
 IsPopLost n v v' place entry =
-    ((entry / n ≢ place / n) × (entry / n + 1 ≢ place / n) × (v' ≡ seen_head place entry v))
+    ((place / n < entry / n) × (v' ≡ seen_head place entry v))
     ⊎ ((entry / n ≡ place / n) × (found : ℕ) × (found ≢ place) × (v' ≡ after (SawHead found) (seen_head place entry v)))
 
 -- ---- turns that were lost

@@ -1,5 +1,5 @@
 //! What the rule of a ring says of all seats. Each function does nothing: its contract is the law.
-ghost use Rattle.std.specs.Prelude.{◌≡◌, ◌+◌, ◌<◌, ◌≤◌, ℕ};
+ghost use Rattle.std.specs.Prelude.{◌≡◌, ◌+◌, ◌<◌, ◌≤◌, ◌⊎◌, ℕ};
 ghost use Rattle.atomic_table.specs.Table.{State};
 ghost use Rattle.unit_model.specs.Weights.{weigh, is_number};
 ghost use Rattle.nncq_ring.specs.RingWords.{ring_words};
@@ -26,10 +26,10 @@ pub fn what_was_put_is_taken_or_stands()
 pub fn places_are_used_in_order()
     ensures filled { (key : ℕ × ℕ) (s : State ℕ RingView) → RingHolds key s → (place : ℕ) → key.1 ≤ place → place < logical_tail key.0 (ring_words 16 s.words)
         → weigh (pushes_of (λ p x. is_number place p)) s.views ≡ 1 }
-    ensures unfilled { (key : ℕ × ℕ) (s : State ℕ RingView) → RingHolds key s → (place : ℕ) → logical_tail key.0 (ring_words 16 s.words) ≤ place
+    ensures unfilled { (key : ℕ × ℕ) (s : State ℕ RingView) → RingHolds key s → (place : ℕ) → (place < key.1) ⊎ (logical_tail key.0 (ring_words 16 s.words) ≤ place)
         → weigh (pushes_of (λ p x. is_number place p)) s.views ≡ 0 }
     ensures emptied { (key : ℕ × ℕ) (s : State ℕ RingView) → RingHolds key s → (place : ℕ) → key.1 ≤ place → place < (ring_words 16 s.words).head
         → weigh (pops_of (λ p x. is_number place p)) s.views ≡ 1 }
-    ensures unemptied { (key : ℕ × ℕ) (s : State ℕ RingView) → RingHolds key s → (place : ℕ) → (ring_words 16 s.words).head ≤ place
+    ensures unemptied { (key : ℕ × ℕ) (s : State ℕ RingView) → RingHolds key s → (place : ℕ) → (place < key.1) ⊎ ((ring_words 16 s.words).head ≤ place)
         → weigh (pops_of (λ p x. is_number place p)) s.views ≡ 0 }
 {}

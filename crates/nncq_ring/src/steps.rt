@@ -11,7 +11,7 @@ impl Ring {
     ghost use lib.ListN.{get_elem?};
     ghost use Rattle.unit_model.specs.Sharing.{Holds};
     ghost use Rattle.nncq_ring.specs.Moments.{PutLast, TookFirst, WasEmpty};
-    ghost use Rattle.nncq_ring.specs.Rule.{IsPast, ShowsFilled};
+    ghost use Rattle.nncq_ring.specs.Rule.{IsPast, SawPlace, ShowsFilled};
     ghost use Rattle.nncq_ring.specs.Seats.{BelongsTo, knows};
     ghost use Rattle.nncq_ring.specs.Views.{after, given, held_by, taken};
     ghost use Rattle.nncq_ring.specs.declared.view.RingEvent.TheVariants.{SawEntry, SawHead, SawTail};
@@ -49,6 +49,7 @@ impl Ring {
         requires aim { (J.size ≡ self.now.size) × (J.place ≡ place) }
         ensures own { BelongsTo seat.new self.now }
         ensures view { knows seat.new ≡ after (SawEntry place result) (knows seat.old) }
+        ensures near { SawPlace place (knows seat.old).log → place / self.now.size ≤ result / self.now.size + 1 }
         ensures empty { get_elem? (knows seat.old).log 0 ≡ some (SawHead place) → result / self.now.size + 1 ≡ place / self.now.size → WasEmpty self.now.size place (knows seat.old) }
     {
         let word = self.word_of(place);

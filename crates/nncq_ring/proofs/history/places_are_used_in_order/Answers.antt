@@ -1,4 +1,5 @@
-use Rattle.std.proofs.Common.{ℕ, ◌≡◌, ◌+◌, arith}
+use Rattle.std.proofs.Common.{ℕ, ◌≡◌, ◌+◌, ◌<◌, ◌≤◌, ◌⊎◌, inl, inr, arith}
+use Rattle.std.proofs.lemmas.Bool.{cases_lt}
 use Rattle.atomic_table.specs.Table.{State}
 use Rattle.unit_model.specs.Weights.{weigh, below, is_number}
 use Rattle.unit_model.proofs.Weights.{below_is, below_is_not}
@@ -18,10 +19,17 @@ returns-clause-filled c key s holds place low high =
     let last : ℕ = logical_tail key.0 (ring_words 16 s.words) in
     omega (arith, filled key s holds place, below_is_not key.1 place low, below_is last place high)
 
+-- what is counted from the start on alone isn't counted below it
+none_outside : (count start end place : ℕ) → count + below (is_number place) start ≡ below (is_number place) end → (place < start) ⊎ (end ≤ place) → count ≡ 0
+none_outside count start end place all (inl early) =
+    elim (cases_lt place end) [
+      | inl low ↦ omega (arith, all, below_is start place early, below_is end place low)
+      | inr high ↦ omega (arith, all, below_is_not end place high)
+    ]
+none_outside count start end place all (inr late) = omega (arith, all, below_is_not end place late)
+
 pub returns-clause-unfilled : goal.returns-clause-unfilled
-returns-clause-unfilled c key s holds place high =
-    let last : ℕ = logical_tail key.0 (ring_words 16 s.words) in
-    omega (arith, filled key s holds place, below_is_not last place high)
+returns-clause-unfilled c key s holds place outside = none_outside (weigh (pushes_of (λ p x. is_number place p)) s.views) key.1 (logical_tail key.0 (ring_words 16 s.words)) place (filled key s holds place) outside
 
 pub returns-clause-emptied : goal.returns-clause-emptied
 returns-clause-emptied c key s holds place low high =
@@ -29,6 +37,4 @@ returns-clause-emptied c key s holds place low high =
     omega (arith, holds.emptied (is_number place), below_is_not key.1 place low, below_is head place high)
 
 pub returns-clause-unemptied : goal.returns-clause-unemptied
-returns-clause-unemptied c key s holds place high =
-    let head : ℕ = (ring_words 16 s.words).head in
-    omega (arith, holds.emptied (is_number place), below_is_not head place high)
+returns-clause-unemptied c key s holds place outside = none_outside (weigh (pops_of (λ p x. is_number place p)) s.views) key.1 (ring_words 16 s.words).head place (holds.emptied (is_number place)) outside
