@@ -1,10 +1,11 @@
 -- What a look shows, and that notes stay true.
 use Rattle.std.proofs.Common.{ℕ, zero, suc, ◌+◌, ◌-◌, ◌/◌, ◌%◌, ◌≡◌, ◌≤◌, ◌<◌, inl, inr, ⊎_elim, List, [], ◌∷◌, refl, sym, ap, ◌∙◌, subst, arith}
 use Rattle.std.proofs.lemmas.Bool.{cases_eq, cases_lt}
+use Rattle.std.proofs.lemmas.Nat.{div-mul-add}
 use Rattle.nncq_ring.specs.declared.view.RingEvent.{RingEvent}
 use Rattle.nncq_ring.specs.declared.view.RingEvent.TheVariants.{SawTail, SawHead, SawEntry, Pushed, Popped}
-use Rattle.nncq_ring.specs.Words.{Words, logical_tail, IsWellFormed, places, line_of}
-use Rattle.nncq_ring.specs.Later.{Later}
+use Rattle.nncq_ring.specs.Words.{Words, entry_of, logical_tail, IsWellFormed, places, line_of}
+use Rattle.nncq_ring.specs.Later.{Later, Begun}
 use Rattle.nncq_ring.specs.Notes.{EntryNoted, Noted, AllNoted}
 use Rattle.nncq_ring.proofs.Numbers.{turned_slot, turned_cycle, cycles_rise}
 use Rattle.nncq_ring.proofs.Exchanges.{tail_open, not_lower, next_open}
@@ -127,3 +128,17 @@ note_stays n w w' (Popped place value) later noted = omega (arith, noted, later.
 pub notes_stay : (n : ℕ) (w w' : Words) (log : List RingEvent) → Later n w w' → AllNoted n w log → AllNoted n w' log
 notes_stay n w w' [] later noted = tt
 notes_stay n w w' (e ∷ es) later noted = (note_stays n w w' e later noted.0, notes_stay n w w' es later noted.1)
+
+-- A first entry stays until its slot is filled.
+pub begun_stays : (n start : ℕ) (w w' : Words) → 0 < n → Later n w w' → Begun n start w → Begun n start w'
+begun_stays n start w w' pos later begun = record {
+  tail = omega (arith, begun.tail, later.tail);
+  entries = λ place lt near. ⊎_elim
+      (λ is.
+      let slot : (place + n) % n ≡ place % n = turned_slot n place pos in
+      let first : entry_of n place 0 / n ≡ place / n = div-mul-add (place / n) n 0 pos in
+      let before : w.entry ((place + n) % n) / n + 1 ≡ (place + n) / n = ap (λ (j : ℕ). w.entry j / n + 1) slot ∙ ap (λ (x : ℕ). x / n + 1) is ∙ ap (λ (m : ℕ). m + 1) first ∙ sym (turned_cycle n place pos) in
+      ⊎_elim (λ same. inl (ap w'.entry (sym slot) ∙ same ∙ ap w.entry slot ∙ is)) (λ filled. inr filled) (later.vacant (place + n) before))
+      (λ filled. inr (omega (arith, filled, later.next)))
+      (begun.entries place lt near);
+}

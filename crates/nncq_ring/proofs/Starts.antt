@@ -1,5 +1,5 @@
 -- The table of a ring at first.
-use Rattle.std.proofs.Common.{ℕ, zero, suc, ◌+◌, ◌^◌, ◌≡◌, ◌<◌, ◌≤◌, ⊎_elim, List, [], ◌∷◌, length, sym, ap, ◌∙◌, subst, arith}
+use Rattle.std.proofs.Common.{ℕ, zero, suc, ◌+◌, ◌^◌, ◌≡◌, ◌<◌, ◌≤◌, ⊎_elim, inl, List, [], ◌∷◌, length, sym, ap, ◌∙◌, subst, arith}
 use mathlib.Core.Option.{some, some-injective, some-ne-none}
 use lib.ListN.{get_elem?}
 use Rattle.std.specs.List.{range_with_len}
@@ -30,6 +30,7 @@ opens n start words pos turned low wide fresh =
     record {
       wide = wide;
       part = record { fine = begins.0; noted = λ k v at. subst (λ (u : RingView). AllNoted n w (events_of u)) (only_view (whole n) k v at) tt };
+      begun = record { tail = omega (arith, fresh.tail); entries = λ place lt near. inl (fresh.entries place lt near) };
       worn = ⊎_elim (λ is. omega (arith, is, fresh.tail, low)) (λ is. omega (arith, is, fresh.tail, low)) (tail_cases n w);
       owned = λ f. omega (arith, nothing (λ e. f e.1), range_held f n);
       moved = λ g. omega (arith, nothing (λ e. g e.0 e.1));

@@ -21,9 +21,9 @@ use Rattle.nncq_ring.specs.RingWords.{ring_words}
 use Rattle.nncq_ring.specs.Views.{held_by, events_of, push_weight, pop_weight, pushes_of, pops_of, empty, after, without, together, given, taken}
 use Rattle.nncq_ring.specs.Rule.{RingHolds, line_weight, SeesTail, SeesHead, SeesEntry, Puts, Takes, Helps, SawPlace, ShowsFilled}
 use Rattle.nncq_ring.proofs.Exchanges.{tail_at, tail_cases, pushed_tail, pushed_line, helped_tail, helped_line, popped_tail, popped_line}
-use Rattle.nncq_ring.proofs.Rising.{room_left}
+use Rattle.nncq_ring.proofs.Rising.{pushed_later, helped_later, popped_later, room_left}
 use Rattle.nncq_ring.specs.Moments.{Meets, WasEmpty}
-use Rattle.nncq_ring.proofs.Noting.{empty_seen, look_noted, may_help, may_take, near_cycle}
+use Rattle.nncq_ring.proofs.Noting.{begun_stays, empty_seen, look_noted, may_help, may_take, near_cycle}
 use Rattle.nncq_ring.proofs.RingParts.{note_at, part_steps, part_pushes, part_helps, part_pops, part_splits, part_joins}
 use Rattle.nncq_ring.proofs.RingWords.{stays_later, sets_entry, sets_tail, sets_head}
 use Rattle.nncq_ring.proofs.Sharing.{owned_moves, held_small, moved_stays, moved_moves, emptied_stays, emptied_one}
@@ -65,6 +65,7 @@ module _ (key : ℕ × ℕ) (slots id : ℕ) (v : RingView) (carried : List (ℕ
       let same : RingHolds key (record { words = s.words; homes = s.homes; views = set s.views id u }) = record {
         wide = holds.wide;
         part = part_steps key.0 events_of now s.views id v at holds.part now u e refl (stays_later key.0 now) holds.part.fine noted;
+        begun = holds.begun;
         worn = holds.worn;
         owned = owned_stays held_by (line_weight key.0 now) key.0 s.views id v u at (λ f. refl) holds.owned;
         moved = moved_stays pushes_of pops_of key.0 now now s.views id v u at refl (λ g. omega (arith, pushed g)) (λ g. omega (arith, popped g)) holds.moved;
@@ -125,6 +126,7 @@ module _ (key : ℕ × ℕ) (slots id : ℕ) (v : RingView) (carried : List (ℕ
           record {
             wide = length-set s.words (48 + t % key.0) second ∙ holds.wide;
             part = part_pushes key.0 events_of now s.views id v at holds.part w' u t value 1 (at_longer v.log v.joined 1 (SawTail t) seen) refl there small room sets;
+            begun = begun_stays key.0 key.1 now w' holds.part.fine.size (pushed_later key.0 t value now w' holds.part.fine noted there small room sets) holds.begun;
             worn = omega (arith, fresh, pushed_tail key.0 t value now w' holds.part.fine noted there small room sets);
             owned = owned_moves held_by (line_weight key.0 now) (line_weight key.0 w') key.0 s.views id v u at (λ f. omega (arith, line_is (λ e. f e.1), without_weighs f value v mine)) holds.owned;
             moved = moved_moves pushes_of pops_of key.0 now w' s.views id v u at (λ g. omega (arith, line_is (λ e. g e.0 e.1))) holds.moved;
@@ -169,6 +171,7 @@ module _ (key : ℕ × ℕ) (slots id : ℕ) (v : RingView) (carried : List (ℕ
           record {
             wide = length-set s.words 16 (h + 1) ∙ holds.wide;
             part = part_pops key.0 events_of now s.views id v at holds.part w' u h x value 0 (at_longer v.log v.joined 0 (SawEntry h x) seen) full found refl sets;
+            begun = begun_stays key.0 key.1 now w' holds.part.fine.size (popped_later key.0 now w' holds.part.fine there.1 sets) holds.begun;
             worn = omega (arith, holds.worn, popped_tail key.0 now w' holds.part.fine there.1 sets);
             owned = owned_moves held_by (line_weight key.0 now) (line_weight key.0 w') key.0 s.views id v u at (λ f. omega (arith, line_is (λ e. f e.1))) holds.owned;
             moved = moved_moves pushes_of pops_of key.0 now w' s.views id v u at (λ g. omega (arith, line_is (λ e. g e.0 e.1))) holds.moved;
@@ -216,6 +219,7 @@ module _ (key : ℕ × ℕ) (slots id : ℕ) (v : RingView) (carried : List (ℕ
           record {
             wide = length-set s.words 32 (t + 1) ∙ holds.wide;
             part = part_helps key.0 events_of now s.views id v at holds.part w' u t (filled_above t shown) found refl sets;
+            begun = begun_stays key.0 key.1 now w' holds.part.fine.size (helped_later key.0 now w' holds.part.fine full sets) holds.begun;
             worn = omega (arith, holds.worn, helped_tail key.0 now w' holds.part.fine full sets);
             owned = owned_moves held_by (line_weight key.0 now) (line_weight key.0 w') key.0 s.views id v u at (λ f. ap (λ l. weigh (λ e. f e.1) l + held_by f v) line) holds.owned;
             moved = moved_stays pushes_of pops_of key.0 now w' s.views id v u at line (λ g. omega arith) (λ g. omega arith) holds.moved;
@@ -241,6 +245,7 @@ splits key id v left right parts same nothing s holds at =
     record {
       wide = holds.wide;
       part = part_splits key.0 events_of w s.views id v at holds.part left right (inl same) (inr nothing);
+      begun = holds.begun;
       worn = holds.worn;
       owned = owned_split held_by (line_weight key.0 w) key.0 s.views id v left right at parts holds.owned;
       moved = λ g. omega (arith, holds.moved g, sum_split (pushes_of g) s.views id v left right at (sum_of (push_weight g)), sum_split (pops_of g) s.views id v left right at (sum_of (pop_weight g)));
@@ -258,6 +263,7 @@ joins key id other v u s holds at apart there =
     record {
       wide = holds.wide;
       part = part_joins key.0 events_of w s.views id v at holds.part other u (together v u) empty before (events_together v u) refl;
+      begun = holds.begun;
       worn = holds.worn;
       owned = owned_join held_by (line_weight key.0 w) key.0 s.views id other v u (together v u) empty at there (λ f. omega (arith, weigh-append f u.held v.held)) holds.owned;
       moved = λ g. omega (arith, holds.moved g, sum_join (pushes_of g) s.views id other v u (together v u) empty at there (sum_of (push_weight g)), sum_join (pops_of g) s.views id other v u (together v u) empty at there (sum_of (pop_weight g)));

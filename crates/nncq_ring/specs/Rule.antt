@@ -10,6 +10,7 @@ use Rattle.nncq_ring.specs.declared.view.RingEvent.{RingEvent}
 use Rattle.nncq_ring.specs.declared.view.RingEvent.TheVariants.{SawTail, SawHead, SawEntry, Pushed}
 use Rattle.nncq_ring.specs.declared.view.RingView.{RingView}
 use Rattle.nncq_ring.specs.Words.{Words, logical_tail, line_of}
+use Rattle.nncq_ring.specs.Later.{Begun}
 use Rattle.nncq_ring.specs.Notes.{RingPart}
 use Rattle.nncq_ring.specs.RingWords.{ring_words}
 use Rattle.nncq_ring.specs.Moments.{PutLast, TookFirst, WasEmpty}
@@ -31,6 +32,7 @@ Emptied pops start w views = (f : ℕ → ℕ) → weigh (pops (λ place value. 
 pub record RingHolds {S : Type 0} (key : ℕ × ℕ) (s : State S RingView) : Type 0 where
   pub wide : length s.words ≡ key.0 + 48
   pub part : RingPart key.0 events_of (ring_words 16 s.words) s.views
+  pub begun : Begun key.0 key.1 (ring_words 16 s.words)
   pub worn : logical_tail key.0 (ring_words 16 s.words) ≤ 2 ^ 62
   pub owned : Owned held_by (line_weight key.0 (ring_words 16 s.words)) key.0 s.views
   pub moved : Moved pushes_of pops_of key.0 (ring_words 16 s.words) s.views

@@ -2,7 +2,7 @@
 ghost use Rattle.std.specs.Prelude.{◌≡◌, ◌+◌, ◌<◌, ◌≤◌, ◌⊎◌, ℕ};
 ghost use Rattle.atomic_table.specs.Table.{State};
 ghost use Rattle.unit_model.specs.Weights.{weigh, is_number};
-ghost use Rattle.nncq_ring.specs.RingWords.{ring_words};
+ghost use Rattle.nncq_ring.specs.RingWords.{ring_words, Fresh};
 ghost use Rattle.nncq_ring.specs.Rule.{RingHolds};
 ghost use Rattle.nncq_ring.specs.Views.{held_by, pops_of, pushes_of};
 ghost use Rattle.nncq_ring.specs.Words.{line_of, logical_tail};
@@ -32,4 +32,10 @@ pub fn places_are_used_in_order()
         → weigh (pops_of (λ p x. is_number place p)) s.views ≡ 1 }
     ensures unemptied { (key : ℕ × ℕ) (s : State ℕ RingView) → RingHolds key s → (place : ℕ) → (place < key.1) ⊎ ((ring_words 16 s.words).head ≤ place)
         → weigh (pops_of (λ p x. is_number place p)) s.views ≡ 0 }
+{}
+
+/// As long as nothing was pushed, the words are those of a ring that was just made: head and tail are the start, and the entries
+/// are those of value 0 at the places before it.
+pub fn a_ring_is_fresh_until_a_push()
+    ensures { (key : ℕ × ℕ) (s : State ℕ RingView) → RingHolds key s → weigh (pushes_of (λ place value. 1)) s.views ≡ 0 → Fresh key.0 key.1 16 s.words }
 {}

@@ -16,7 +16,8 @@ mod view;
 mod waiting;
 
 pub use history::{
-    each_number_is_in_one_place, places_are_used_in_order, what_was_put_is_taken_or_stands,
+    a_ring_is_fresh_until_a_push, each_number_is_in_one_place, places_are_used_in_order,
+    what_was_put_is_taken_or_stands,
 };
 pub use laws::{
     a_look_is_noted, a_ring_starts_empty, empty_is_seen, full_is_seen, head_may_be_taken,
