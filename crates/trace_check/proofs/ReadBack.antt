@@ -38,7 +38,7 @@ digits_test = record {
 fold_from : ℕ → List ℕ → ℕ
 fold_from n digits = fold (λ value digit. value * 10 + (digit - 48)) n digits
 
-own : IsNumeralModel (λ ds. list_all is_ascii_digit ds ≡ true) decimal_value
+pub own : IsNumeralModel (λ ds. list_all is_ascii_digit ds ≡ true) decimal_value
 own = numerals_by_fold (λ ds. list_all is_ascii_digit ds ≡ true) digits_test (λ n digits. fold (λ value digit. value * 10 + (digit - 48)) n digits)
     (record { empty = λ n. refl; more = λ n c cs h. refl })
 

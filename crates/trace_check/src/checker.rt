@@ -56,6 +56,7 @@ impl Checker {
         ensures count { OnOk result (bytes_read self.new ≡ bytes_read self.old + length piece.now) }
         ensures whole { OnOk result (has_failed self.new ≡ false) }
         ensures failed { OnErr result (has_failed self.new ≡ true) }
+        ensures stays { has_failed self.old ≡ true → has_failed self.new ≡ true }
     {
         if self.failed {
             return Err(AllocError);

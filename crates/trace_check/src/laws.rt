@@ -10,9 +10,11 @@ ghost use Rattle.unit_model.specs.Running.{AllEnabled, after_steps};
 ghost use Rattle.unit_model.specs.declared.machine.Step.{Step};
 ghost use Rattle.unit_model.specs.declared.shape.Shape.{Shape};
 
-/// The line by which a step is told is read back as that step.
+/// The line by which a step is told, if its numbers fit their types, is read back as that step; and that line alone is, so
+/// that each step has one spelling.
 pub fn lines_are_read_back()
-    ensures { (step : Step) (text : List ℕ) → FitsStep step → line_of step ≡ text ++ 10 ∷ [] → step_of text ≡ Some step }
+    ensures read { (step : Step) (text : List ℕ) → FitsStep step → line_of step ≡ text ++ 10 ∷ [] → step_of text ≡ Some step }
+    ensures spelled { (step : Step) (text : List ℕ) → step_of text ≡ Some step → FitsStep step × (line_of step ≡ text ++ 10 ∷ []) }
 {}
 
 /// A trace is legal exactly where its lines say steps that run from the opened core of the shape: `run_core` does such steps
