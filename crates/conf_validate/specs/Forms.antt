@@ -1,5 +1,5 @@
 -- The forms of the names and texts of a configuration.
-use Rattle.std.specs.Prelude.{ℕ, ◌+◌, zero, suc, Bool, true, false, not, ◌&&◌, ◌||◌, ◌==◌, nat_le, nat_lt, nat_eq, List, [], ◌∷◌, length, drop, codes, Option, Some, None, if◌then◌else◌}
+use Rattle.std.specs.Prelude.{ℕ, zero, suc, Bool, true, false, not, ◌&&◌, ◌||◌, ◌==◌, nat_le, nat_lt, nat_eq, List, [], ◌∷◌, length, codes, Option, Some, None}
 use Rattle.std.specs.List.{list_any, list_all, starts_with}
 use Rattle.std.specs.Option.{is_some}
 use Rattle.std.specs.Str.{bytes_eq, str_to_ascii_lowercase}
@@ -8,8 +8,6 @@ use Rattle.pattern_addr.specs.AddressPattern.{number_of, cut, address_pattern_of
 use Rattle.path_normal.specs.Variables.{variable_count}
 use Rattle.conf_validate.specs.declared.place.Form.{Form}
 use Rattle.conf_validate.specs.declared.place.Form.TheVariants as form
-use Rattle.conf_validate.specs.declared.place.Names.{Names}
-use Rattle.conf_validate.specs.declared.place.Names.TheVariants as names
 
 -- ---- names of listeners: HOST `:` PORT, where HOST is `*` or four numbers up to 255 with periods between them, PORT is
 -- 1 to 65535, and no number has a leading zero

@@ -1,3 +1,5 @@
 pub mod Forms
 pub mod Table
 pub mod Valid
+pub mod Scopes
+pub mod Again

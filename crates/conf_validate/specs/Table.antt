@@ -1,5 +1,5 @@
 -- The table of the places of a configuration: what may stand at each, and the members of its objects.
-use Rattle.std.specs.Prelude.{ℕ, Bool, true, false, ◌||◌, not, List, [], ◌∷◌, codes, Option, Some, None, if◌then◌else◌}
+use Rattle.std.specs.Prelude.{ℕ, Bool, true, false, ◌||◌, List, [], ◌∷◌, codes, Option, Some, None, if◌then◌else◌}
 use Rattle.std.specs.Str.{bytes_eq}
 use Rattle.conf_validate.specs.declared.place.Form.{Form}
 use Rattle.conf_validate.specs.declared.place.Form.TheVariants as form

@@ -135,16 +135,16 @@ abbrev pub is_choice_at : Place → Members → Bool
 is_choice_at place.Action ms = is_choice ms
 is_choice_at other ms = true
 
--- rule 2: the place of a member's value, where its name is one of its object's and doesn't stand before it
+-- rule 2: the place of a member's value, where its name is one of its object's; a header field isn't one again
 abbrev pub place_if : Bool → Place → Option Place
 place_if test p = if test then Some p else None
 
-abbrev pub place_of : List Entry → Names → List (List ℕ) → List ℕ → Option Place
-place_of entries names.Fixed earlier name = place_among name entries
-place_of entries (names.Any p) earlier name = Some p
-place_of entries (names.Listener p) earlier name = place_if (is_listener_name name) p
-place_of entries (names.Target p) earlier name = place_if (is_target_name name) p
-place_of entries (names.Header p) earlier name = place_if (is_header_name name && not (is_again earlier name)) p
+abbrev pub place_of : List Entry → Names → Bool → List ℕ → Option Place
+place_of entries names.Fixed again name = place_among name entries
+place_of entries (names.Any p) again name = Some p
+place_of entries (names.Listener p) again name = place_if (is_listener_name name) p
+place_of entries (names.Target p) again name = place_if (is_target_name name) p
+place_of entries (names.Header p) again name = place_if (is_header_name name && not again) p
 
 -- ---- the walk
 
@@ -173,7 +173,7 @@ abbrev mutual
   members_fault table context entries ns earlier no_members = None
   members_fault table context entries ns earlier (member name d ms) =
       or_then
-      (below name (for_some (place_of entries ns earlier name) (broken 2) (λ p. value_fault table context p d)))
+      (below name (for_some (place_of entries ns (is_again earlier name) name) (broken 2) (λ p. value_fault table context p d)))
       (members_fault table context entries ns (earlier ++ name ∷ []) ms)
 
 -- the first broken rule of a configuration, by a table

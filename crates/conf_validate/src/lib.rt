@@ -2,6 +2,14 @@
 #![tactic(auto)]
 
 mod fault;
+mod forms;
+mod lower;
+mod members;
+mod names;
 mod place;
+mod references;
+mod rules;
+mod walk;
 
 pub use fault::Invalid;
+pub use walk::first_fault;

@@ -1,0 +1,4 @@
+mod MemberLemmas
+mod Sizes
+mod WalkLemmas
+mod LowerLemmas
