@@ -3,3 +3,4 @@ pub mod Table
 pub mod Valid
 pub mod Scopes
 pub mod Again
+pub mod Configuration
