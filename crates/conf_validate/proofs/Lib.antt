@@ -2,3 +2,4 @@ mod MemberLemmas
 mod Sizes
 mod WalkLemmas
 mod LowerLemmas
+mod CompileLemmas

@@ -4,3 +4,4 @@ pub mod Valid
 pub mod Scopes
 pub mod Again
 pub mod Configuration
+pub mod Answers

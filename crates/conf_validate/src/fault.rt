@@ -3,6 +3,7 @@ ghost use Rattle.std.specs.Fmt.{decimal};
 ghost use Rattle.std.specs.Prelude.{◌≡◌, ◌++◌, Some, IfOk, OnOk, if◌then◌else◌};
 ghost use Rattle.conf_validate.specs.Valid.{below, broken, broken_if, key_byte, level};
 ghost use Rattle.std.specs.List.{flat_map};
+ghost use Rattle.conf_validate.specs.declared.fault.ConfFault.TheVariants.{Memory};
 
 use std::alloc::{AllocError, Global};
 use unit_types::Bytes;
@@ -15,6 +16,23 @@ pub struct Invalid {
     pub path: Bytes,
     /// The rule, from 1 to 8.
     pub rule: u8,
+}
+
+/// Why there is no configuration.
+#[derive(Debug, Drop)]
+pub enum ConfFault {
+    /// A rule is broken.
+    Invalid(Invalid),
+    /// There was no memory.
+    Memory,
+}
+
+impl From<AllocError> for ConfFault {
+    ghost from_gives = { λ _ e. e ≡ Memory };
+
+    fn from(_e: AllocError) -> ConfFault {
+        ConfFault::Memory
+    }
 }
 
 impl Invalid {
