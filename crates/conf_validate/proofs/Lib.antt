@@ -3,3 +3,5 @@ mod Sizes
 mod WalkLemmas
 mod LowerLemmas
 mod CompileLemmas
+mod CleanLemmas
+mod KeptLemmas

@@ -5,3 +5,4 @@ pub mod Scopes
 pub mod Again
 pub mod Configuration
 pub mod Answers
+pub mod Kept

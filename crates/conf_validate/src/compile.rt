@@ -4,6 +4,7 @@ ghost use Rattle.std.specs.List.{flat_map};
 ghost use Rattle.conf_tree.specs.Document.{AreDocuments, AreMembers, IsDocument};
 ghost use Rattle.conf_tree.specs.View.{data_of, list_data, map_data};
 ghost use Rattle.conf_validate.specs.Configuration.{application_of, applications_of, changes_in, changes_list, configuration_of, default_format, format_of, items_list, items_of, list_in, max_body_of, number_in, part, step_of, steps_of, steps_of_routes, text_in, values_list, values_of, word};
+ghost use Rattle.conf_validate.specs.Kept.{IsKept};
 ghost use Rattle.serde_json.specs.Find.{get, of_integer};
 
 use crate::conf::{Application, Changes, Conf, Step};
@@ -14,7 +15,8 @@ use unit_types::Bytes;
 
 /// What the document says.
 pub(crate) fn configuration_of(alloc: Global, document: &Tree) -> Result<Conf, AllocError>
-    requires { IsDocument (data_of document.now) }
+    requires document { IsDocument (data_of document.now) }
+    requires kept { IsKept (configuration_of (data_of document.now)) }
     ensures { IfOk result (λ conf. conf ≡ configuration_of (data_of document.now)) }
 {
     Ok(Conf {

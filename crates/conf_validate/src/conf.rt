@@ -56,6 +56,9 @@ pub struct Step {
 }
 
 /// A valid configuration. Contracts see what its document says.
+///
+/// Its type keeps that its numbers are in their ranges and its texts have their forms, and that the name of a handler has
+/// at most 255 bytes.
 #[derive(Debug, Drop)]
 pub struct Conf {
     pub(crate) applications: Vec<Application>,
@@ -66,10 +69,13 @@ pub struct Conf {
 
 impl Model for Conf {
     ghost use Rattle.conf_validate.specs.Configuration.{Configuration};
+    ghost use Rattle.conf_validate.specs.Kept.{IsKept};
 
     ghost Value = { Configuration };
 
     ghost view = { λ c. record { applications = c.applications.items; steps = c.steps.items; max_body = c.max_body; log_format = c.log_format } };
+
+    ghost invariant = { λ c. IsKept (record { applications = c.applications.items; steps = c.steps.items; max_body = c.max_body; log_format = c.log_format }) };
 }
 
 impl Conf {

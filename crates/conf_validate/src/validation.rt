@@ -17,7 +17,8 @@ use unit_types::Bytes;
 /// `Invalid` comes exactly where a rule is broken, and names the first one of the walk (`first_fault`); `Memory` is want
 /// of memory.
 pub fn validate(alloc: Global, document: &Tree, handlers: &[Bytes]) -> Result<Conf, ConfFault>
-    requires { IsDocument (data_of document.now) }
+    requires document { IsDocument (data_of document.now) }
+    requires short { All (λ name. length name ≤ 255) handlers.now }
     ensures { MatchResult result (IsConfiguration (data_of document.now) handlers.now) (IsRefusal (data_of document.now) handlers.now) }
 {
     match first_fault(alloc, document, handlers)? {
