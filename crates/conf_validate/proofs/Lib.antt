@@ -1,0 +1,7 @@
+mod MemberLemmas
+mod Sizes
+mod WalkLemmas
+mod LowerLemmas
+mod CompileLemmas
+mod CleanLemmas
+mod KeptLemmas

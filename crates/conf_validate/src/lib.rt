@@ -1,0 +1,22 @@
+//! Configurations: which trees are valid, and the first broken rule of the others.
+#![tactic(auto)]
+
+mod compile;
+mod conf;
+mod fault;
+mod forms;
+mod lower;
+mod members;
+mod names;
+mod place;
+mod references;
+mod rules;
+#[cfg(test)]
+mod tests;
+mod validation;
+mod walk;
+
+pub use conf::{Application, Changes, Conf, Step};
+pub use fault::{ConfFault, Invalid};
+pub use validation::validate;
+pub use walk::first_fault;

@@ -1,0 +1,128 @@
+//! The forms of names.
+ghost use Rattle.std.specs.Prelude.{◌≡◌, ◌≤◌, option_map, IfSome, ◌==◌};
+ghost use Rattle.std.specs.List.{list_all, list_any};
+ghost use Rattle.pattern_addr.specs.AddressPattern.{cut, number_of};
+ghost use Rattle.unit_types.specs.Token.{is_tchar};
+ghost use Rattle.conf_validate.specs.Forms.{are_numbers, is_header_name, is_host, is_listener_name, is_number, is_of_connection, is_port, is_target_name, is_token};
+
+use http_header::is_token_char;
+
+/// The text in front of the first separator and the text behind it, where there is a separator.
+fn cut(text: &[u8], separator: u8) -> Option<(&[u8], &[u8])>
+    ensures { option_map (λ parts. (parts.0.now, parts.1.now)) result ≡ cut separator text.now }
+{
+    let at = text.iter().position(|b| *b == separator)?;
+    Some((&text[..at], &text[at + 1..]))
+}
+
+/// The decimal number of at most `limit` that the text spells.
+fn number_of(text: &[u8], limit: u16) -> Option<u16>
+    ensures value { result ≡ number_of limit text.now }
+    ensures small { IfSome result (λ n. n ≤ limit) }
+{
+    if text.is_empty() {
+        return None;
+    }
+    let mut value = 0u32;
+    for digit in text {
+        if !digit.is_ascii_digit() {
+            return None;
+        }
+        value = value * 10 + u32::from(*digit - b'0');
+        if value > u32::from(limit) {
+            return None;
+        }
+    }
+    u16::try_from(value).ok()
+}
+
+/// Whether the text is digits without a leading zero, of a value of at most `limit`.
+fn is_number(text: &[u8], limit: u16) -> bool
+    ensures { result ≡ is_number limit text.now }
+{
+    number_of(text, limit).is_some() && !(text.starts_with(b"0") && text.len() > 1)
+}
+
+/// Whether the text is so many numbers up to 255, each with a period behind it, and one more.
+fn are_numbers(count: u8, text: &[u8]) -> bool
+    ensures { result ≡ are_numbers count text.now }
+{
+    if count == 0 {
+        return is_number(text, 255);
+    }
+    match cut(text, b'.') {
+        Some((first, rest)) => is_number(first, 255) && are_numbers(count - 1, rest),
+        None => false,
+    }
+}
+
+fn is_host(text: &[u8]) -> bool
+    ensures { result ≡ is_host text.now }
+{
+    text == b"*".as_slice() || are_numbers(3, text)
+}
+
+fn is_port(text: &[u8]) -> bool
+    ensures { result ≡ is_port text.now }
+{
+    is_number(text, 65535) && !(text == b"0".as_slice())
+}
+
+/// Whether the name is one of a listener: HOST`:`PORT, where HOST is `*` or four numbers up to 255 with periods between
+/// them, PORT is 1 to 65535, and no number has a leading zero.
+pub(crate) fn is_listener_name(name: &[u8]) -> bool
+    ensures { result ≡ is_listener_name name.now }
+{
+    match cut(name, b':') {
+        Some((host, port)) => is_host(host) && is_port(port),
+        None => false,
+    }
+}
+
+/// Whether a pass can have the name behind its `/`: it isn't empty and has no `/`.
+pub(crate) fn is_target_name(name: &[u8]) -> bool
+    ensures { result ≡ is_target_name name.now }
+{
+    !name.is_empty() && !has_slash(name)
+}
+
+fn has_slash(name: &[u8]) -> bool
+    ensures { result ≡ list_any (λ b. b == 47) name.now }
+{
+    name.iter().any(|b| *b == b'/')
+}
+
+/// Whether the byte may stand in a token (RFC 9110, section 5.6.2).
+fn is_tchar(byte: u8) -> bool
+    ensures { result ≡ is_tchar byte }
+{
+    is_token_char(byte)
+}
+
+fn is_token(name: &[u8]) -> bool
+    ensures { result ≡ is_token name.now }
+{
+    !name.is_empty() && has_only_tchars(name)
+}
+
+fn has_only_tchars(name: &[u8]) -> bool
+    ensures { result ≡ list_all is_tchar name.now }
+{
+    name.iter().all(|b| is_tchar(*b))
+}
+
+/// Whether the field belongs to the connection: Content-Length, Connection or Transfer-Encoding, in any case.
+fn is_of_connection(name: &[u8]) -> bool
+    ensures { result ≡ is_of_connection name.now }
+{
+    name.eq_ignore_ascii_case(b"content-length")
+        || name.eq_ignore_ascii_case(b"connection")
+        || name.eq_ignore_ascii_case(b"transfer-encoding")
+}
+
+/// Whether the header field may be changed.
+pub(crate) fn is_header_name(name: &[u8]) -> bool
+    ensures { result ≡ is_header_name name.now }
+{
+    is_token(name) && !is_of_connection(name)
+}
