@@ -3,13 +3,19 @@
 
 mod block;
 mod checks;
+mod chunk;
 mod closing;
+mod content;
+mod fields;
 mod front;
 mod head;
 mod host;
 mod laws;
+mod number;
 mod reader;
 mod request;
+mod target;
+mod text;
 mod written;
 
 pub use closing::{is_head_request, is_last_request};
