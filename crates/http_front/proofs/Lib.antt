@@ -1,3 +1,4 @@
+pub mod AnswerLemmas
 mod BlockLemmas
 mod ChunkLemmas
 mod ChunkLineLemmas

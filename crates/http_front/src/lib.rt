@@ -22,4 +22,4 @@ pub use closing::{is_head_request, is_last_request};
 pub use head::laws_of_heads;
 pub use laws::laws_of_units;
 pub use reader::{Next, Reader};
-pub use written::{error_reply, write_http};
+pub use written::{continue_reply, error_reply, write_http};
