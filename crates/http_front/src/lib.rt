@@ -23,3 +23,6 @@ pub use head::laws_of_heads;
 pub use laws::laws_of_units;
 pub use reader::{Next, Reader};
 pub use written::{continue_reply, error_reply, write_http};
+
+#[cfg(test)]
+mod tests;
