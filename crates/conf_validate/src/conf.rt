@@ -79,6 +79,13 @@ impl Model for Conf {
 }
 
 impl Conf {
+    /// How many applications there are.
+    pub fn application_count(&self) -> usize
+        ensures { result ≡ length self.now.applications }
+    {
+        self.applications.len()
+    }
+
     /// The name of an application's handler.
     pub fn handler(&self, app: usize) -> &[u8]
         requires { app < length self.now.applications }

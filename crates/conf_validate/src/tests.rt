@@ -1,10 +1,10 @@
-ghost use Rattle.std.specs.Prelude.{IfOk};
+ghost use Rattle.std.specs.Prelude.{◌≤◌, All, IfOk, length};
 ghost use Rattle.conf_tree.specs.Document.{IsDocument};
 ghost use Rattle.conf_tree.specs.View.{data_of};
 
-use crate::{Invalid, first_fault};
+use crate::{Conf, ConfFault, Invalid, first_fault, validate};
 use conf_tree::{Tree, read_tree};
-use std::alloc::Global;
+use std::alloc::{AllocError, Global};
 use std::process::Abort;
 use std::test::Fail;
 use unit_types::Bytes;
@@ -20,12 +20,18 @@ fn document(alloc: Global, text: &str) -> Result<Tree, Fail>
     }
 }
 
+fn handlers(alloc: Global) -> Result<[Bytes; 2], AllocError>
+    ensures { IfOk result (λ names. All (λ name. length name ≤ 255) names) }
+{
+    Ok([
+        Bytes::copy_of(alloc, b"count")?,
+        Bytes::copy_of(alloc, b"hello")?,
+    ])
+}
+
 fn fault_of(alloc: Global, text: &str) -> Result<Option<Invalid>, Fail> {
     let tree = document(alloc, text)?;
-    let mut handlers = Vec::new(alloc);
-    handlers.push(Bytes::copy_of(alloc, b"count")?)?;
-    handlers.push(Bytes::copy_of(alloc, b"hello")?)?;
-    Ok(first_fault(alloc, &tree, handlers.as_slice())?)
+    Ok(first_fault(alloc, &tree, &handlers(alloc)?)?)
 }
 
 /// Each row breaks exactly this rule at this path, and no other rule elsewhere.
@@ -612,4 +618,69 @@ fn answers_the_first_broken_rule(rt: HostRuntime) -> Result<(), Fail> {
 #[test]
 fn accepts_valid_ones(rt: HostRuntime) -> Result<(), Fail> {
     accepts(&rt, valid())
+}
+
+fn full() -> &'static str {
+    r#"{"access_log":{},"applications":{"a":{"executable":"hello","type":"external"},"b":{"executable":"count","limits":{"timeout":30},"type":"external"}},"routes":{"x":[{"action":{"location":"/$uri","return":301}}],"y":[{"action":{"return":404}},{"action":{"pass":"applications/a","response_headers":{"A":"b","c":null},"rewrite":"/v1$uri"}}]},"settings":{"http":{"max_body_size":7}}}"#
+}
+
+fn default_format() -> &'static str {
+    r#"$remote_addr "$request_line" $status $body_bytes_sent "$header_referer" "$header_user_agent""#
+}
+
+fn configuration(alloc: Global, text: &str) -> Result<Conf, Fail> {
+    let tree = document(alloc, text)?;
+    match validate(alloc, &tree, &handlers(alloc)?) {
+        Ok(conf) => Ok(conf),
+        Err(_) => Err("refused")?,
+    }
+}
+
+#[test]
+fn tells_what_a_document_says(rt: HostRuntime) -> Result<(), Fail> {
+    let conf = configuration(rt.alloc(), full())?;
+    assert!(rt; conf.max_body() == 7);
+    let format = conf.log_format().expect(&rt, "a log");
+    assert!(rt; format == default_format().as_bytes());
+    assert!(rt; conf.location(0).expect(&rt, "a location") == b"/$uri".as_slice());
+    assert!(rt; conf.location(1).is_none());
+    assert!(rt; conf.location(3).is_none());
+    assert!(rt; conf.rewrite(0).is_none());
+    assert!(rt; conf.rewrite(2).expect(&rt, "a rewrite") == b"/v1$uri".as_slice());
+    assert!(rt; conf.changes(0).is_empty());
+    assert!(rt; conf.changes(3).is_empty());
+    assert!(rt; conf.changes(2).len() == 2);
+    if conf.application_count() == 2 {
+        assert!(rt; conf.handler(0) == b"hello".as_slice());
+        assert!(rt; conf.handler(1) == b"count".as_slice());
+    } else {
+        assert!(rt; false, "another number of applications");
+    }
+    Ok(())
+}
+
+#[test]
+fn has_defaults(rt: HostRuntime) -> Result<(), Fail> {
+    let conf = configuration(rt.alloc(), "{}")?;
+    assert!(rt; conf.max_body() == 8388608);
+    assert!(rt; conf.log_format().is_none());
+    assert!(rt; conf.application_count() == 0);
+    Ok(())
+}
+
+fn refusal(alloc: Global, text: &str) -> Result<Invalid, Fail> {
+    let tree = document(alloc, text)?;
+    match validate(alloc, &tree, &handlers(alloc)?) {
+        Ok(_) => Err("accepted")?,
+        Err(ConfFault::Invalid(fault)) => Ok(fault),
+        Err(ConfFault::Memory) => Err("no memory")?,
+    }
+}
+
+#[test]
+fn gives_the_fault(rt: HostRuntime) -> Result<(), Fail> {
+    let fault = refusal(rt.alloc(), r#"{"foo":1}"#)?;
+    assert!(rt; fault.path.as_slice() == b"/foo".as_slice());
+    assert!(rt; fault.rule == 2);
+    Ok(())
 }
