@@ -22,7 +22,7 @@ use Rattle.unit_model.specs.declared.machine.Step.TheVariants.{Draw, Claim, Rele
 
 -- ---- numbers
 
-digit_in : (c : ℕ) → is_ascii_digit c ≡ true → IsInRange 48 57 c
+pub digit_in : (c : ℕ) → is_ascii_digit c ≡ true → IsInRange 48 57 c
 digit_in c e = search rules
 
 in_digit : (c : ℕ) → IsInRange 48 57 c → is_ascii_digit c ≡ true
@@ -72,7 +72,7 @@ number_back limit n le small =
 abbrev pub has_space : List ℕ → Bool
 has_space text = list_any (λ b. b == 32) text
 
-parts_false : (b c : Bool) → (b || c) ≡ false → (b ≡ false) × (c ≡ false)
+pub parts_false : (b c : Bool) → (b || c) ≡ false → (b ≡ false) × (c ≡ false)
 parts_false true c e = absurd (cc e)
 parts_false false c e = (refl, e)
 

@@ -1,9 +1,11 @@
 -- Which inputs are legal traces.
-use Rattle.std.specs.Prelude.{◌≡◌, ◌<◌, true, List, [], ◌∷◌, length, Some, ◌⊎◌}
+use Rattle.std.specs.Prelude.{◌≡◌, ◌<◌, true, ℕ, List, [], ◌∷◌, ◌++◌, length, Some, ◌⊎◌}
 use Rattle.trace_check.specs.Lines.{shape_of, step_of}
+use Rattle.trace_check.specs.ReadBack.{FitsStep}
 use Rattle.trace_check.specs.Verdicts.{Line, is_valid, plain_shape}
 use Rattle.trace_check.specs.declared.verdict.Verdict.{Verdict}
 use Rattle.trace_check.specs.declared.verdict.Verdict.TheVariants.{Broken, Illegal, Legal}
+use Rattle.unit_model.specs.Lines.{line_of}
 use Rattle.unit_model.specs.declared.machine.Step.{Step}
 use Rattle.unit_model.specs.declared.shape.Shape.{Shape}
 
@@ -26,6 +28,16 @@ SayShape (line ∷ lines) shape steps = IsWhole line × (shape_of line.text ≡ 
 -- the lines say a shape, which is the plain one where no line says it, and steps
 abbrev pub Say : List Line → Shape → List Step → Type 0
 Say lines shape steps = ((shape ≡ plain_shape) × SaySteps lines steps) ⊎ SayShape lines shape steps
+
+-- the numbers of all these steps fit their types
+abbrev pub AllFit : List Step → Type 0
+AllFit [] = Unit {0}
+AllFit (step ∷ steps) = FitsStep step × AllFit steps
+
+-- the lines of steps, one after another
+abbrev pub trace_of : List Step → List ℕ
+trace_of [] = []
+trace_of (step ∷ steps) = line_of step ++ trace_of steps
 
 abbrev pub IsLegal : Verdict → Type 0
 IsLegal (Broken place) = ⊥

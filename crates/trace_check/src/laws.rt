@@ -2,7 +2,7 @@
 ghost use Rattle.std.specs.Prelude.{◌≡◌, ◌∷◌, ◌++◌, [], ℕ, List, Some, length};
 ghost use Rattle.trace_check.specs.Lines.{step_of};
 ghost use Rattle.trace_check.specs.ReadBack.{FitsStep};
-ghost use Rattle.trace_check.specs.Traces.{IsLegal, Say};
+ghost use Rattle.trace_check.specs.Traces.{AllFit, IsLegal, Say, SaySteps, trace_of};
 ghost use Rattle.trace_check.specs.Verdicts.{legal, lines_of, tally_of, verdict_of};
 ghost use Rattle.unit_model.specs.Lines.{line_of};
 ghost use Rattle.unit_model.specs.Opening.{opened_core};
@@ -15,6 +15,12 @@ ghost use Rattle.unit_model.specs.declared.shape.Shape.{Shape};
 pub fn lines_are_read_back()
     ensures read { (step : Step) (text : List ℕ) → FitsStep step → line_of step ≡ text ++ 10 ∷ [] → step_of text ≡ Some step }
     ensures spelled { (step : Step) (text : List ℕ) → step_of text ≡ Some step → FitsStep step × (line_of step ≡ text ++ 10 ∷ []) }
+{}
+
+/// The lines of steps, one after another, say these steps; and no other bytes do, so that each list of steps has one trace.
+pub fn traces_are_read_back()
+    ensures read { (steps : List Step) → AllFit steps → SaySteps (lines_of (trace_of steps)) steps }
+    ensures spelled { (bytes : List ℕ) (steps : List Step) → SaySteps (lines_of bytes) steps → AllFit steps × (bytes ≡ trace_of steps) }
 {}
 
 /// A trace is legal exactly where its lines say steps that run from the opened core of the shape: `run_core` does such steps

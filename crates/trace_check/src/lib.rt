@@ -18,7 +18,7 @@ mod tally;
 mod verdict;
 
 pub use checker::Checker;
-pub use laws::{legal_where_steps_run, lines_are_read_back};
+pub use laws::{legal_where_steps_run, lines_are_read_back, traces_are_read_back};
 pub use verdict::Verdict;
 
 #[cfg(test)]
