@@ -89,6 +89,13 @@ impl Conf {
         self.applications.len()
     }
 
+    /// The steps of all routes by their index.
+    pub fn steps(&self) -> &[Step]
+        ensures { result.now ≡ self.now.steps }
+    {
+        self.steps.as_slice()
+    }
+
     /// The name of an application's handler.
     pub fn handler(&self, app: usize) -> &[u8]
         requires { app < length self.now.applications }
