@@ -1,11 +1,15 @@
 -- What a valid document says.
-use Rattle.std.specs.Prelude.{ℕ, ◌^◌, nat_lt, List, [], ◌∷◌, map, codes, Option, Some, None, option_and_then, if◌then◌else◌}
+use Rattle.std.specs.Prelude.{ℕ, ◌^◌, nat_lt, List, [], ◌∷◌, map, codes, Bool, true, false, Option, Some, None, option_and_then, option_map, if◌then◌else◌}
 use Rattle.std.specs.List.{flat_map}
-use Rattle.std.specs.Option.{unwrap_or}
+use Rattle.std.specs.Option.{option_to_list, unwrap_or}
+use Rattle.std.specs.Str.{str_to_ascii_lowercase}
+use Rattle.pattern_addr.specs.AddressPattern.{AddressPattern, address_pattern_of}
 use Rattle.serde_json.specs.Data.{Num, unsigned, negative, float, Data, null, boolean, number, string, array, object, Items, no_items, item, Members, no_members, member}
 use Rattle.serde_json.specs.Find.{get, as_str}
 use Rattle.conf_validate.specs.declared.conf.Application.{Application}
 use Rattle.conf_validate.specs.declared.conf.Step.{Step}
+use Rattle.conf_validate.specs.declared.matching.Match.{Match}
+use Rattle.conf_validate.specs.declared.matching.NamedPatterns.{NamedPatterns}
 
 -- a configuration: its applications and its steps by their index, and what it sets
 pub record Configuration : Type 0 where
@@ -107,8 +111,75 @@ abbrev pub changes_in : Option Data → List (List ℕ × Option (List ℕ))
 changes_in None = []
 changes_in (Some d) = changes_of d
 
+-- ---- what a match asks of a request
+
+abbrev pub text_or_nil : Data → List ℕ
+text_or_nil d = unwrap_or (as_str d) []
+
+-- one text pattern, or a list of them
+abbrev pub texts_of : Data → List (List ℕ)
+texts_of null = []
+texts_of (boolean b) = []
+texts_of (number n) = []
+texts_of (string s) = s ∷ []
+texts_of (array ds) = map text_or_nil (items_list ds)
+texts_of (object ms) = []
+
+abbrev pub address_of : List ℕ → List AddressPattern
+address_of text = option_to_list (address_pattern_of text)
+
+-- one address pattern, or a list of them
+abbrev pub addresses_of : Data → List AddressPattern
+addresses_of null = []
+addresses_of (boolean b) = []
+addresses_of (number n) = []
+addresses_of (string s) = address_of s
+addresses_of (array ds) = flat_map (λ d. address_of (text_or_nil d)) (items_list ds)
+addresses_of (object ms) = []
+
+-- patterns by name; the names of header fields in lower case
+abbrev pub named : Bool → List ℕ → Data → NamedPatterns
+named lower name d = record { name = (if lower then str_to_ascii_lowercase name else name); patterns = texts_of d }
+
+abbrev pub named_list : Bool → Members → List NamedPatterns
+named_list lower no_members = []
+named_list lower (member k d ms) = named lower k d ∷ named_list lower ms
+
+abbrev pub named_of : Bool → Data → List NamedPatterns
+named_of lower null = []
+named_of lower (boolean b) = []
+named_of lower (number n) = []
+named_of lower (string s) = []
+named_of lower (array ds) = []
+named_of lower (object ms) = named_list lower ms
+
+-- one object of names, or a list of them
+abbrev pub sets_of : Bool → Data → List (List NamedPatterns)
+sets_of lower null = []
+sets_of lower (boolean b) = []
+sets_of lower (number n) = []
+sets_of lower (string s) = []
+sets_of lower (array ds) = map (named_of lower) (items_list ds)
+sets_of lower (object ms) = named_list lower ms ∷ []
+
+-- the members of a match; what isn't there asks nothing
+abbrev pub match_of : Option Data → Match
+match_of value = record {
+  uri = option_map texts_of (part (codes "uri") value);
+  host = option_map texts_of (part (codes "host") value);
+  method = option_map texts_of (part (codes "method") value);
+  scheme = option_map texts_of (part (codes "scheme") value);
+  query = option_map texts_of (part (codes "query") value);
+  source = option_map addresses_of (part (codes "source") value);
+  destination = option_map addresses_of (part (codes "destination") value);
+  arguments = option_map (sets_of false) (part (codes "arguments") value);
+  cookies = option_map (sets_of false) (part (codes "cookies") value);
+  headers = option_map (sets_of true) (part (codes "headers") value);
+}
+
 abbrev pub step_of : Data → Step
 step_of d = record {
+  conditions = match_of (get (codes "match") d);
   location = text_in (part (codes "location") (get (codes "action") d));
   rewrite = text_in (part (codes "rewrite") (get (codes "action") d));
   changes = changes_in (part (codes "response_headers") (get (codes "action") d));

@@ -9,6 +9,7 @@ ghost use Rattle.serde_json.specs.Find.{get, of_integer};
 
 use crate::conf::{Application, Changes, Conf, Step};
 use crate::members::member_of;
+use crate::patterns::match_of;
 use conf_tree::{Tree, TreeList, TreeMap};
 use std::alloc::{AllocError, Global};
 use unit_types::Bytes;
@@ -30,7 +31,7 @@ pub(crate) fn configuration_of(alloc: Global, document: &Tree) -> Result<Conf, A
 // ---- parts of a value
 
 /// The member of this name of a value that is there.
-fn part<'a>(value: Option<&'a Tree>, name: &[u8]) -> Option<&'a Tree>
+pub(crate) fn part<'a>(value: Option<&'a Tree>, name: &[u8]) -> Option<&'a Tree>
     requires { IfSome value (λ t. IsDocument (data_of t.now)) }
     ensures value { option_map (λ t. data_of t.now) result ≡ part name.now (option_map (λ t. data_of t.now) value.entry) }
     ensures document { IfSome result (λ t. IsDocument (data_of t.now)) }
@@ -120,6 +121,7 @@ fn step_of(alloc: Global, tree: &Tree) -> Result<Step, AllocError>
 {
     let action = member_of(tree, b"action");
     Ok(Step {
+        conditions: match_of(alloc, member_of(tree, b"match"))?,
         location: text_in(alloc, part(action, b"location"))?,
         rewrite: text_in(alloc, part(action, b"rewrite"))?,
         changes: changes_in(alloc, part(action, b"response_headers"))?,

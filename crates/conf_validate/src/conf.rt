@@ -2,6 +2,7 @@
 ghost use Rattle.std.specs.Prelude.{◌≡◌, ◌<◌, length, option_and_then, option_map, slice_get, Some, map};
 ghost use Rattle.conf_validate.specs.Configuration.{changes_at};
 
+use crate::matching::Match;
 use std::marker::Model;
 use unit_types::Bytes;
 
@@ -47,6 +48,8 @@ impl Changes {
 /// A step of a route.
 #[derive(Debug, Drop)]
 pub struct Step {
+    /// What it asks of a request.
+    pub conditions: Match,
     /// The text of its `location`, as written.
     pub location: Option<Bytes>,
     /// The text of its `rewrite`, as written.
@@ -84,6 +87,13 @@ impl Conf {
         ensures { result ≡ length self.now.applications }
     {
         self.applications.len()
+    }
+
+    /// The steps of all routes by their index.
+    pub fn steps(&self) -> &[Step]
+        ensures { result.now ≡ self.now.steps }
+    {
+        self.steps.as_slice()
     }
 
     /// The name of an application's handler.

@@ -6,8 +6,10 @@ mod conf;
 mod fault;
 mod forms;
 mod lower;
+mod matching;
 mod members;
 mod names;
+mod patterns;
 mod place;
 mod references;
 mod rules;
@@ -18,5 +20,6 @@ mod walk;
 
 pub use conf::{Application, Changes, Conf, Step};
 pub use fault::{ConfFault, Invalid};
+pub use matching::{Match, NamedPatterns, NamedSet, NamedSets};
 pub use validation::validate;
 pub use walk::first_fault;

@@ -54,7 +54,10 @@ impl LowerNames {
     }
 }
 
-fn lowercase(alloc: Global, text: &[u8]) -> Result<Vec<u8>, AllocError>
+/// The text in lower case.
+///
+/// Fails for want of memory alone.
+pub(crate) fn lowercase(alloc: Global, text: &[u8]) -> Result<Vec<u8>, AllocError>
     ensures { IfOk result (λ lower. lower.items ≡ str_to_ascii_lowercase text.now) }
 {
     text.iter().map(|b| b.to_ascii_lowercase()).collect(alloc)

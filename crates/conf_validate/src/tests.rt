@@ -659,6 +659,39 @@ fn tells_what_a_document_says(rt: HostRuntime) -> Result<(), Fail> {
     Ok(())
 }
 
+fn matching() -> &'static str {
+    r#"{"routes":[{"action":{"return":1},"match":{"headers":[{"X-A":["b","!c"]},{}],"source":["*:80","!1.2.3.4"],"uri":"/a*"}}]}"#
+}
+
+#[test]
+fn parses_patterns_once(rt: HostRuntime) -> Result<(), Fail> {
+    let conf = configuration(rt.alloc(), matching())?;
+    assert!(rt; conf.steps().len() == 1);
+    for step in conf.steps() {
+        let asked = &step.conditions;
+        assert!(rt; asked.uri.as_ref().expect(&rt, "a uri").as_slice().len() == 1);
+        assert!(rt;
+            asked
+                .source
+                .as_ref()
+                .expect(&rt, "a source")
+                .as_slice()
+                .len()
+                == 2
+        );
+        assert!(rt; asked.host.is_none());
+        let sets = asked.headers.as_ref().expect(&rt, "headers").as_slice();
+        assert!(rt; sets.len() == 2);
+        for set in sets {
+            for named in set.as_slice() {
+                assert!(rt; named.name.as_slice() == b"x-a".as_slice());
+                assert!(rt; named.patterns.as_slice().len() == 2);
+            }
+        }
+    }
+    Ok(())
+}
+
 #[test]
 fn has_defaults(rt: HostRuntime) -> Result<(), Fail> {
     let conf = configuration(rt.alloc(), "{}")?;
