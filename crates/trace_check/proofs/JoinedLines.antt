@@ -1,5 +1,5 @@
--- The joined lines of steps are taken apart into these lines, and only they say these steps.
-use Rattle.std.proofs.Common.{◌≡◌, ◌∙◌, ℕ, ◌*◌, ◌^◌, ◌<◌, ◌≤◌, ◌==◌, Bool, true, false, if◌then◌else◌, List, [], ◌∷◌, ◌++◌, length, refl, sym, ap, subst, arith, length-append}
+-- The joined lines of a shape and of steps are taken apart into these lines, and only they say the shape and the steps.
+use Rattle.std.proofs.Common.{◌≡◌, ◌∙◌, ℕ, ◌*◌, ◌^◌, ◌<◌, ◌≤◌, ◌==◌, Bool, true, false, if◌then◌else◌, List, [], ◌∷◌, ◌++◌, length, refl, sym, ap, subst, arith, length-append, inl, inr}
 use Rattle.std.specs.Prelude.{codes, decimal}
 use Rattle.std.specs.List.{list_all, list_any}
 use Rattle.std.specs.Char.{is_ascii_digit}
@@ -9,11 +9,13 @@ use Rattle.std.proofs.lemmas.List.{append_assoc}
 use Rattle.std.proofs.lemmas.List.Folds.{list_any-append}
 use Rattle.trace_check.proofs.OneSpelling.{one_spelling}
 use Rattle.trace_check.proofs.ReadBack.{digit_in, own, parts_false, read_back}
+use Rattle.trace_check.proofs.ShapeLines.{shape_back, shape_spelled, valid_fits}
 use Rattle.trace_check.specs.ReadBack.{FitsStep}
-use Rattle.trace_check.specs.Traces.{AllFit, SaySteps, trace_of}
-use Rattle.trace_check.specs.Verdicts.{Line, before_lines, lines_of}
+use Rattle.trace_check.specs.Traces.{AllFit, IsTraceOf, Say, SayShape, SaySteps, shape_line, shape_numbers, trace_of}
+use Rattle.trace_check.specs.Verdicts.{Line, before_lines, is_valid, lines_of}
 use Rattle.unit_model.specs.Lines.{line, line_of, numbers_text}
 use Rattle.unit_model.specs.declared.machine.Step.{Step}
+use Rattle.unit_model.specs.declared.shape.Shape.{Shape}
 use Rattle.unit_model.specs.declared.machine.Step.TheVariants.{Draw, Claim, Release, Open, GetItem, SetRun, SetPart, Arm, Push, Pop, Settle, GiveItem, Abandon}
 
 -- ---- a text without LF
@@ -86,7 +88,7 @@ step_line (Abandon seat stream) fits = is_line (codes "abandon") (seat ∷ strea
 
 -- ---- the lines of steps, joined and taken apart
 
-pub trace_says : (steps : List Step) → AllFit steps → SaySteps (lines_of (trace_of steps)) steps
+trace_says : (steps : List Step) → AllFit steps → SaySteps (lines_of (trace_of steps)) steps
 trace_says [] fits = tt
 trace_says (step ∷ steps) fits =
     let rest = trace_of steps in
@@ -131,7 +133,54 @@ said_bytes (line ∷ lines) (step ∷ steps) says =
           ∙ ap (λ bytes. bytes ++ trace_of steps) (sym one.1),
     )
 
-pub said_trace : (bytes : List ℕ) (steps : List Step) → SaySteps (lines_of bytes) steps → AllFit steps × (bytes ≡ trace_of steps)
+said_trace : (bytes : List ℕ) (steps : List Step) → SaySteps (lines_of bytes) steps → AllFit steps × (bytes ≡ trace_of steps)
 said_trace bytes steps says =
     let said = said_bytes (lines_of bytes) steps says in
     (said.0, sym (bytes_again bytes) ∙ said.1)
+
+-- ---- with the line of a shape in front
+
+shape_is_line : (shape : Shape) → is_valid shape ≡ true → IsLine (shape_line shape)
+shape_is_line shape valid =
+    let fits = valid_fits shape valid in
+    is_line (codes "shape") (shape_numbers shape) refl (omega arith) (omega arith)
+    (omega (arith, fits.0), (omega (arith, fits.1), (omega (arith, fits.2), (omega (arith, fits.3), (omega (arith, fits.4), (omega (arith, fits.5), (fits.6, tt)))))))
+
+shape_says : (shape : Shape) (steps : List Step) → AllFit steps → is_valid shape ≡ true → SayShape (lines_of (shape_line shape ++ trace_of steps)) shape steps
+shape_says shape steps fits valid =
+    let rest = trace_of steps in
+    let said = shape_is_line shape valid in
+    let front : lines_of (shape_line shape ++ rest) ≡ (record { text = said.0; is_ended = true }) ∷ lines_of rest =
+    ap (λ bytes. lines_of (bytes ++ rest)) said.1 ∙ ap lines_of (append_assoc said.0 (10 ∷ []) rest) ∙ first_line said.0 rest said.2 in
+    let P : List Line → Type 0 = λ lines. SayShape lines shape steps in
+    subst P (sym front) ((refl, said.3), shape_back shape said.0 valid said.1, valid, trace_says steps fits)
+
+pub says : (shape : Shape) (steps : List Step) (bytes : List ℕ) → IsTraceOf shape steps bytes → Say (lines_of bytes) shape steps
+says shape steps bytes (fits, inl is) =
+    let P : List ℕ → Type 0 = λ b. SaySteps (lines_of b) steps in
+    inl (is.0, subst P (sym is.1) (trace_says steps fits))
+says shape steps bytes (fits, inr is) =
+    let P : List ℕ → Type 0 = λ b. SayShape (lines_of b) shape steps in
+    inr (subst P (sym is.1) (shape_says shape steps fits is.0))
+
+shape_bytes : (lines : List Line) (shape : Shape) (steps : List Step) → SayShape lines shape steps
+    → AllFit steps × (is_valid shape ≡ true) × (bytes_of lines ≡ shape_line shape ++ trace_of steps)
+shape_bytes [] shape steps says = absurd says
+shape_bytes (line ∷ lines) shape steps says =
+    let one = shape_spelled shape line.text says.1 in
+    let more = said_bytes lines steps says.3 in (
+      more.0,
+      says.2,
+      ap (λ c. if c then line.text ++ 10 ∷ bytes_of lines else line.text ++ bytes_of lines) says.0.0
+          ∙ ap (λ rest. line.text ++ 10 ∷ rest) more.1
+          ∙ sym (append_assoc line.text (10 ∷ []) (trace_of steps))
+          ∙ ap (λ bytes. bytes ++ trace_of steps) (sym one),
+    )
+
+pub said : (shape : Shape) (steps : List Step) (bytes : List ℕ) → Say (lines_of bytes) shape steps → IsTraceOf shape steps bytes
+said shape steps bytes (inl says) =
+    let trace = said_trace bytes steps says.1 in
+    (trace.0, inl (says.0, trace.1))
+said shape steps bytes (inr says) =
+    let trace = shape_bytes (lines_of bytes) shape steps says in
+    (trace.0, inr (trace.1, sym (bytes_again bytes) ∙ trace.2))

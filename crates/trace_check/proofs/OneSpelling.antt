@@ -59,7 +59,7 @@ map_some f true x y e = (refl, same_Some (f x) y e)
 map_some f false x y e = absurd (cc e)
 
 -- the parts of a text around its first space, joined again
-cut_joined : (text : List ℕ) (parts : List ℕ × List ℕ) → cut text ≡ Some parts → text ≡ parts.0 ++ 32 ∷ parts.1
+pub cut_joined : (text : List ℕ) (parts : List ℕ × List ℕ) → cut text ≡ Some parts → text ≡ parts.0 ++ 32 ∷ parts.1
 cut_joined text parts e =
     let at = position_or_len (λ b. b == 32) text in
     let found = map_some (λ i. (take i text, drop (i + 1) text)) (nat_lt at (length text)) at parts e in
@@ -74,7 +74,7 @@ cut_joined text parts e =
 abbrev pub IsFront : ℕ → List ℕ → ℕ × List ℕ → Type 0
 IsFront limit text parts = (parts.0 ≤ limit) × (text ≡ decimal parts.0 ++ 32 ∷ parts.1)
 
-first_spelled : (limit : ℕ) (text : List ℕ) (parts : ℕ × List ℕ) → limit < 2 ^ 64 → first_number limit text ≡ Some parts → IsFront limit text parts
+pub first_spelled : (limit : ℕ) (text : List ℕ) (parts : ℕ × List ℕ) → limit < 2 ^ 64 → first_number limit text ≡ Some parts → IsFront limit text parts
 first_spelled limit text parts small e =
     option_and_then_some _ (cut text) parts e (λ cuts is read.
     option_and_then_some _ (number_of limit cuts.0) parts read (λ number numbers last.
@@ -85,10 +85,10 @@ first_spelled limit text parts small e =
 
 -- ---- several numbers, each after a space
 
-one_more : (text rest : List ℕ) (n : ℕ) (ns : List ℕ) → text ≡ decimal n ++ 32 ∷ rest → 32 ∷ rest ≡ numbers_text ns → 32 ∷ text ≡ numbers_text (n ∷ ns)
+pub one_more : (text rest : List ℕ) (n : ℕ) (ns : List ℕ) → text ≡ decimal n ++ 32 ∷ rest → 32 ∷ rest ≡ numbers_text ns → 32 ∷ text ≡ numbers_text (n ∷ ns)
 one_more text rest n ns e after = ap (λ ds. 32 ∷ ds) (e ∙ ap (λ ds. decimal n ++ ds) after)
 
-last_one : (text : List ℕ) (n : ℕ) → text ≡ decimal n → 32 ∷ text ≡ numbers_text (n ∷ [])
+pub last_one : (text : List ℕ) (n : ℕ) → text ≡ decimal n → 32 ∷ text ≡ numbers_text (n ∷ [])
 last_one text n e = ap (λ ds. 32 ∷ ds) (e ∙ sym (append-nil (decimal n)))
 
 abbrev pub IsPair : ℕ → List ℕ → ℕ × ℕ → Type 0

@@ -189,7 +189,7 @@ unfolding kind_of step_with
 set_run_says seat queue item run s q i g c z = step_by (codes "setrun") _ kind.SetRun _ refl refl (set_run_back seat queue item run s q i g c z)
 
 -- the texts in front of a last byte are one
-same_front : (xs ys : List ℕ) (b : ℕ) → xs ++ b ∷ [] ≡ ys ++ b ∷ [] → ys ≡ xs
+pub same_front : (xs ys : List ℕ) (b : ℕ) → xs ++ b ∷ [] ≡ ys ++ b ∷ [] → ys ≡ xs
 same_front xs ys b e =
     let all = ap length e in
     let lengths : length ys ≡ length xs = omega (arith, all, length-append xs (b ∷ []), length-append ys (b ∷ [])) in

@@ -1,11 +1,11 @@
 -- Which inputs are legal traces.
-use Rattle.std.specs.Prelude.{◌≡◌, ◌<◌, true, ℕ, List, [], ◌∷◌, ◌++◌, length, Some, ◌⊎◌}
+use Rattle.std.specs.Prelude.{◌≡◌, ◌<◌, true, ℕ, List, [], ◌∷◌, ◌++◌, length, Some, codes, ◌⊎◌}
 use Rattle.trace_check.specs.Lines.{shape_of, step_of}
 use Rattle.trace_check.specs.ReadBack.{FitsStep}
 use Rattle.trace_check.specs.Verdicts.{Line, is_valid, plain_shape}
 use Rattle.trace_check.specs.declared.verdict.Verdict.{Verdict}
 use Rattle.trace_check.specs.declared.verdict.Verdict.TheVariants.{Broken, Illegal, Legal}
-use Rattle.unit_model.specs.Lines.{line_of}
+use Rattle.unit_model.specs.Lines.{line, line_of}
 use Rattle.unit_model.specs.declared.machine.Step.{Step}
 use Rattle.unit_model.specs.declared.shape.Shape.{Shape}
 
@@ -38,6 +38,21 @@ AllFit (step ∷ steps) = FitsStep step × AllFit steps
 abbrev pub trace_of : List Step → List ℕ
 trace_of [] = []
 trace_of (step ∷ steps) = line_of step ++ trace_of steps
+
+-- the line that says a shape
+abbrev pub shape_numbers : Shape → List ℕ
+shape_numbers shape =
+    shape.items ∷ shape.back_items ∷ shape.out_segments ∷ shape.back_segments ∷ shape.engines ∷ shape.workers ∷ shape.start ∷ []
+
+abbrev pub shape_line : Shape → List ℕ
+shape_line shape = line (codes "shape") (shape_numbers shape)
+
+-- the bytes are the lines of these steps, behind the line of this shape, which a fabric can have; for the plain shape they may
+-- be the lines of the steps alone
+abbrev pub IsTraceOf : Shape → List Step → List ℕ → Type 0
+IsTraceOf shape steps bytes =
+    AllFit steps
+    × (((shape ≡ plain_shape) × (bytes ≡ trace_of steps)) ⊎ ((is_valid shape ≡ true) × (bytes ≡ shape_line shape ++ trace_of steps)))
 
 abbrev pub IsLegal : Verdict → Type 0
 IsLegal (Broken place) = ⊥

@@ -2,7 +2,7 @@
 ghost use Rattle.std.specs.Prelude.{◌≡◌, ◌∷◌, ◌++◌, [], ℕ, List, Some, length};
 ghost use Rattle.trace_check.specs.Lines.{step_of};
 ghost use Rattle.trace_check.specs.ReadBack.{FitsStep};
-ghost use Rattle.trace_check.specs.Traces.{AllFit, IsLegal, Say, SaySteps, trace_of};
+ghost use Rattle.trace_check.specs.Traces.{IsLegal, IsTraceOf, Say};
 ghost use Rattle.trace_check.specs.Verdicts.{legal, lines_of, tally_of, verdict_of};
 ghost use Rattle.unit_model.specs.Lines.{line_of};
 ghost use Rattle.unit_model.specs.Opening.{opened_core};
@@ -17,10 +17,10 @@ pub fn lines_are_read_back()
     ensures spelled { (step : Step) (text : List ℕ) → step_of text ≡ Some step → FitsStep step × (line_of step ≡ text ++ 10 ∷ []) }
 {}
 
-/// The lines of steps, one after another, say these steps; and no other bytes do, so that each list of steps has one trace.
+/// The lines of a shape and of steps, one after another, say this shape and these steps; and no other bytes do.
 pub fn traces_are_read_back()
-    ensures read { (steps : List Step) → AllFit steps → SaySteps (lines_of (trace_of steps)) steps }
-    ensures spelled { (bytes : List ℕ) (steps : List Step) → SaySteps (lines_of bytes) steps → AllFit steps × (bytes ≡ trace_of steps) }
+    ensures read { (shape : Shape) (steps : List Step) (bytes : List ℕ) → IsTraceOf shape steps bytes → Say (lines_of bytes) shape steps }
+    ensures spelled { (shape : Shape) (steps : List Step) (bytes : List ℕ) → Say (lines_of bytes) shape steps → IsTraceOf shape steps bytes }
 {}
 
 /// A trace is legal exactly where its lines say steps that run from the opened core of the shape: `run_core` does such steps
