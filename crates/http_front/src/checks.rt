@@ -1,101 +1,114 @@
-//! The checks of a head, in their order (RFC 9112, sections 3 and 6; RFC 9110, section 15.5).
+//! The checks of a head, in their order (RFC 9112, section 3; RFC 9110, section 15.5).
 ghost use Rattle.std.specs.Prelude.{◌≡◌};
 ghost use Rattle.http_front.specs.Checks as spec;
 
-use crate::fields::{count_of, value_of};
-use crate::number::number_within;
-use crate::target::is_faulty_target;
+use crate::host::is_host;
 use unit_types::{Field, Request};
 
-/// The status of the first check that refuses a request, given the largest content that is taken.
-pub(crate) fn refusal_of(request: &Request, max_body: u64) -> Option<u16>
-    ensures { result ≡ spec.refusal_of max_body request.now.minor request.now.target request.now.fields }
+/// The status of the first check that refuses a request.
+pub(crate) fn refusal_of(request: &Request) -> Option<u16>
+    ensures { result ≡ spec.request_refusal request.now }
 {
-    let fields = request.fields.as_slice();
-    if is_faulty_target(request.target.as_slice()) {
-        Some(400)
-    } else if lacks_host(request.minor, fields) {
-        Some(400)
-    } else if is_ambiguous(request.minor, fields) {
-        Some(400)
-    } else if has_other_coding(fields) {
+    if is_unserved(request) {
         Some(501)
-    } else if has_faulty_length(fields) {
+    } else if lacks_host(request) {
         Some(400)
-    } else if is_too_long(fields, max_body) {
-        Some(413)
     } else {
         None
     }
 }
 
-fn lacks_host(minor: u8, fields: &[Field]) -> bool
-    ensures { result ≡ spec.lacks_host minor fields.now }
+fn lacks_host(request: &Request) -> bool
+    ensures { result ≡ spec.lacks_host_at request.now.minor request.now.fields }
 {
-    let hosts = count_of(fields, b"host");
-    if minor == 1 { hosts != 1 } else { hosts > 1 }
+    let hosts = count_hosts(request.fields.as_slice());
+    if request.minor == 1 {
+        hosts != 1
+    } else {
+        hosts > 1
+    }
 }
 
-fn is_ambiguous(minor: u8, fields: &[Field]) -> bool
-    ensures { result ≡ spec.is_ambiguous minor fields.now }
+fn count_hosts(fields: &[Field]) -> usize
+    ensures { result ≡ spec.host_count fields.now }
 {
-    has_coding(fields) && (has_length(fields) || minor == 0)
+    fields.iter().filter(|field| is_host(field)).count()
 }
 
-fn has_length(fields: &[Field]) -> bool
-    ensures { result ≡ spec.has_length fields.now }
+fn is_unserved(request: &Request) -> bool
+    ensures { result ≡ spec.is_unserved_at request.now.method request.now.minor request.now.fields request.now.path request.now.query }
 {
-    count_of(fields, b"content-length") > 0
+    request.method.as_slice() != b"GET".as_slice()
+        || request.minor != 1
+        || has_unserved_field(request.fields.as_slice())
+        || !is_plain_path(request.path.as_slice())
+        || !is_plain_query(request.query.as_slice())
 }
 
-fn has_coding(fields: &[Field]) -> bool
-    ensures { result ≡ spec.has_coding fields.now }
+fn has_unserved_field(fields: &[Field]) -> bool
+    ensures { result ≡ spec.has_unserved_field fields.now }
 {
-    count_of(fields, b"transfer-encoding") > 0
+    fields
+        .iter()
+        .any(|field| is_unserved_name(field.name.as_slice()))
 }
 
-fn has_other_coding(fields: &[Field]) -> bool
-    ensures { result ≡ spec.has_other_coding fields.now }
+fn is_unserved_name(name: &[u8]) -> bool
+    ensures { result ≡ spec.is_unserved_name name.now }
 {
-    has_coding(fields) && !is_chunked(fields)
+    name == b"content-length".as_slice()
+        || name == b"transfer-encoding".as_slice()
+        || name == b"connection".as_slice()
 }
 
-/// Whether the content comes in chunks.
-pub(crate) fn is_chunked(fields: &[Field]) -> bool
-    ensures { result ≡ spec.is_chunked fields.now }
+fn is_plain_path(path: &[u8]) -> bool
+    ensures { result ≡ spec.is_plain_path path.now }
 {
-    count_of(fields, b"transfer-encoding") == 1
-        && value_of(fields, b"transfer-encoding").eq_ignore_ascii_case(b"chunked")
+    begins_with_slash(path) && has_plain_bytes(path) && !has_double_slash(path)
 }
 
-fn has_faulty_length(fields: &[Field]) -> bool
-    ensures { result ≡ spec.has_faulty_length fields.now }
+fn has_plain_bytes(path: &[u8]) -> bool
+    ensures { result ≡ spec.has_plain_bytes path.now }
 {
-    has_length(fields)
-        && !(count_of(fields, b"content-length") == 1 && is_length_text(length_text(fields)))
+    path.iter().all(|b| is_plain_byte(*b))
 }
 
-fn is_length_text(text: &[u8]) -> bool
-    ensures { result ≡ spec.is_length_text text.now }
+fn is_plain_byte(b: u8) -> bool
+    ensures { result ≡ spec.is_plain_byte b }
 {
-    !text.is_empty() && text.len() < 20 && has_digits(text)
+    b.is_ascii_alphanumeric() || b == b'-' || b == b'_' || b == b'/'
 }
 
-fn has_digits(text: &[u8]) -> bool
-    ensures { result ≡ spec.has_digits text.now }
+fn has_double_slash(path: &[u8]) -> bool
+    ensures { result ≡ spec.has_double_slash path.now }
 {
-    text.iter().all(|b| b.is_ascii_digit())
+    let mut rest = path;
+    while let [first, tail @ ..] = rest {
+        if *first == b'/' && begins_with_slash(tail) {
+            return true;
+        }
+        rest = tail;
+    }
+    false
 }
 
-/// The value of Content-Length, or nothing.
-pub(crate) fn length_text(fields: &[Field]) -> &[u8]
-    ensures { result.now ≡ spec.length_text fields.now }
+fn begins_with_slash(text: &[u8]) -> bool
+    ensures { result ≡ spec.begins_with_slash text.now }
 {
-    value_of(fields, b"content-length")
+    match text {
+        [first, ..] => *first == b'/',
+        [] => false,
+    }
 }
 
-fn is_too_long(fields: &[Field], max_body: u64) -> bool
-    ensures { result ≡ spec.is_too_long max_body fields.now }
+fn is_plain_query(query: &[u8]) -> bool
+    ensures { result ≡ spec.is_plain_query query.now }
 {
-    number_within(length_text(fields), max_body).is_none()
+    query.iter().all(|b| is_query_byte(*b))
+}
+
+fn is_query_byte(b: u8) -> bool
+    ensures { result ≡ spec.is_query_byte b }
+{
+    b > b' ' && b < 0x7f && b != b'#'
 }

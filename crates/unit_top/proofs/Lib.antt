@@ -1,1 +1,2 @@
-mod OnceLemmas
+pub mod FoundLemmas
+pub mod OnceLemmas
