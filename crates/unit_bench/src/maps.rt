@@ -19,7 +19,18 @@ const ROUNDS: u64 = 1_000_000;
 pub fn claims(rt: &impl Runtime, alloc: Global) -> io::Result<()> {
     let mut base = u64::MAX;
     let mut measured = u64::MAX;
-    let words = half_words();
+    let words = [
+        half(),
+        half(),
+        half(),
+        half(),
+        half(),
+        half(),
+        half(),
+        half(),
+        half(),
+        half(),
+    ];
     for _ in 0..TRIES {
         let start = Instant::now(rt)?;
         let done = word_rounds(&words);
@@ -33,26 +44,25 @@ pub fn claims(rt: &impl Runtime, alloc: Global) -> io::Result<()> {
     report(rt, "claim of a chunk", measured, base, 300)
 }
 
-// Words whose even bits are set.
-fn half_words() -> [AtomicU64; 10] {
-    [const { AtomicU64::new(0x5555_5555_5555_5555) }; 10]
+// A word whose even bits are set.
+fn half() -> AtomicU64 {
+    AtomicU64::new(0x5555_5555_5555_5555)
 }
 
-// Loads all words, takes a bit of the last one, and gives it back.
+// Loads all words, takes a bit of the first one, and gives it back.
 fn word_rounds(words: &[AtomicU64; 10]) -> u64 {
-    let mut rounds = 0;
-    for _ in 0..ROUNDS {
+    for round in 0..ROUNDS {
         let mut free = 0;
         for word in words {
             free |= word.load(Ordering::SeqCst);
         }
-        if free & 1 == 1 {
-            words[0].fetch_and(!1, Ordering::SeqCst);
-            words[0].fetch_or(1, Ordering::SeqCst);
-            rounds += 1;
+        if free & 1 == 0 {
+            return round;
         }
+        words[0].fetch_and(!1, Ordering::SeqCst);
+        words[0].fetch_or(1, Ordering::SeqCst);
     }
-    rounds
+    ROUNDS
 }
 
 // Claims two neighbouring chunks at a time and gives the first one back.
