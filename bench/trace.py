@@ -66,11 +66,10 @@ def main():
             path = measure.with_input([part])
             times.append(measure.best([check, awk], path, 5))
             os.unlink(path)
-        (whole, memory), (counted, _) = times[0]
+        (whole, _), (counted, _) = times[0]
         first, rest = times[1][0][0], whole - times[2][0][0]
         measure.report("%d lines, %s: time against awk" % (len(lines), name), whole / counted, 3)
         measure.report("%d lines, %s: last tenth against the first" % (len(lines), name), rest / first, 1.5)
-        print("    %d bytes of memory" % memory)
     return 0
 
 
