@@ -12,45 +12,29 @@ import measure
 ITEMS = 8
 
 
-def posted(stream):
-    """A request is posted by seat 0 and taken by seat 1, which gives the item back."""
+def passed(stream, sender, receiver, queue, segment, part, size):
+    """A message goes from one seat to the other through a queue, and its item goes back to the free list."""
     turn = stream - 1
     item = turn % ITEMS
-    yield "draw 0 %d" % stream
-    yield "claim 0 0 0"
-    yield "getitem 0 0 %d %d" % (item, ITEMS + turn)
-    yield "setrun 0 0 %d 0 0 77" % item
-    yield "setpart 0 0 %d 0" % item
-    yield "arm 0 0 %d %d" % (item, stream)
-    yield "push 0 0 %d %d" % (item, ITEMS + turn)
-    yield "pop 1 0 %d %d" % (item, ITEMS + turn)
-    yield "settle 1 0 %d %d" % (item, stream)
-    yield "release 1 0 0"
-    yield "giveitem 1 0 %d %d" % (item, 2 * ITEMS + turn)
-
-
-def answered(stream):
-    """The reply comes back in one part through queue 1."""
-    turn = stream - 1
-    item = turn % ITEMS
-    yield "claim 1 1 0"
-    yield "getitem 1 1 %d %d" % (item, ITEMS + turn)
-    yield "setrun 1 1 %d 1 0 54" % item
-    yield "setpart 1 1 %d 1" % item
-    yield "arm 1 1 %d %d" % (item, stream)
-    yield "push 1 1 %d %d" % (item, ITEMS + turn)
-    yield "pop 0 1 %d %d" % (item, ITEMS + turn)
-    yield "settle 0 1 %d %d" % (item, stream)
-    yield "release 0 1 0"
-    yield "giveitem 0 1 %d %d" % (item, 2 * ITEMS + turn)
+    yield "claim %d %d 0" % (sender, segment)
+    yield "getitem %d %d %d %d" % (sender, queue, item, ITEMS + turn)
+    yield "setrun %d %d %d %d 0 %d" % (sender, queue, item, segment, size)
+    yield "setpart %d %d %d %d" % (sender, queue, item, part)
+    yield "arm %d %d %d %d" % (sender, queue, item, stream)
+    yield "push %d %d %d %d" % (sender, queue, item, ITEMS + turn)
+    yield "pop %d %d %d %d" % (receiver, queue, item, ITEMS + turn)
+    yield "settle %d %d %d %d" % (receiver, queue, item, stream)
+    yield "release %d %d 0" % (receiver, segment)
+    yield "giveitem %d %d %d %d" % (receiver, queue, item, 2 * ITEMS + turn)
 
 
 def trace(streams, reply):
     lines = []
     for stream in range(1, streams + 1):
-        lines.extend(posted(stream))
+        lines.append("draw 0 %d" % stream)
+        lines.extend(passed(stream, 0, 1, queue=0, segment=0, part=0, size=77))
         if reply:
-            lines.extend(answered(stream))
+            lines.extend(passed(stream, 1, 0, queue=1, segment=1, part=1, size=54))
     return lines
 
 
