@@ -6,6 +6,7 @@ use Rattle.std.proofs.lemmas.List.Recursion.{is_count_by}
 use Rattle.std.proofs.lemmas.Bool.{ne_eqb, eqb-true, and_parts, false≢true}
 use Rattle.http_front.proofs.Cuts.{place_some, place_inside, place_none, drop_past}
 use Rattle.http_front.specs.Head.{is_line_feed, onto_line, line_step, lines_in}
+use Rattle.http_front.specs.Chunks.{first_len}
 use Rattle.http_front.specs.Front.{is_empty_line, blank_step, blank_in, block_in, block_step}
 
 -- ---- empty lines
@@ -238,3 +239,11 @@ blank_total (line ∷ lines) = by_line (is_empty_line line) (blank_total lines)
 
 pub blank_within : (xs : List ℕ) → blank_in (lines_in xs) ≤ length xs
 blank_within xs = let low = blank_total (lines_in xs) in let fits = total_fits xs in omega (arith, low, fits)
+
+-- and so does the first line
+pub line_within : (xs : List ℕ) (n : ℕ) → first_len (lines_in xs) ≡ Some n → n ≤ length xs
+line_within xs n is = by_lines (lines_in xs) (total_fits xs) is
+  where
+    by_lines : (lines : List (List ℕ)) → total lines ≤ length xs → first_len lines ≡ Some n → n ≤ length xs
+    by_lines [] low is = absurd (cc)
+    by_lines (line ∷ lines) low is = let same : length line + 1 ≡ n = cc in omega (arith, low, same)

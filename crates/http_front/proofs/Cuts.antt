@@ -28,7 +28,7 @@ take_all : (w : List ℕ) → take (length w) w ≡ w
 take_all [] = refl
 take_all (x ∷ w) = ap (λ v. x ∷ v) (take_all w)
 
-take_seam : (w ys : List ℕ) → take (length w) (w ++ ys) ≡ w
+pub take_seam : (w ys : List ℕ) → take (length w) (w ++ ys) ≡ w
 take_seam [] ys = refl
 take_seam (x ∷ w) ys = ap (λ v. x ∷ v) (take_seam w ys)
 
@@ -45,7 +45,7 @@ after_stop p w x r none stop = rw (position_stop p w x r none stop) (drop_behind
 pub before_none : (p : ℕ → Bool) (w : List ℕ) → Lacks p w → before_first p w ≡ w
 before_none p w none = rw (position_none p w none) (take_all w)
 
-any_none : (p : ℕ → Bool) (w : List ℕ) → Lacks p w → list_any p w ≡ false
+pub any_none : (p : ℕ → Bool) (w : List ℕ) → Lacks p w → list_any p w ≡ false
 any_none p [] none = refl
 any_none p (x ∷ w) none = rw none.0 (any_none p w none.1)
 

@@ -8,7 +8,12 @@ use Rattle.unit_types.specs.declared.message.Request.{Request}
 use Rattle.unit_types.specs.declared.message.Reply.{Reply}
 use Rattle.http_front.specs.Head.{head_of, head_in}
 use Rattle.http_front.specs.Front.{blank_len, block_len, front_of}
-use Rattle.http_front.specs.NextUnit.{next_unit, connection_unit}
+use Rattle.http_front.specs.NextUnit.{next_unit}
+use Rattle.http_front.specs.Content.{content_of}
+use Rattle.http_front.specs.Chunks.{line_front, first_chunk, chunks_in}
+use Rattle.http_front.specs.ChunkLine.{chunk_line_in, chunk_size_of}
+use Rattle.percent_encoding.specs.Percent.{percent_decode}
+use Rattle.httparse.specs.Grammar.{print_chunk_line}
 use Rattle.http_front.specs.Session.{session_from, once_of}
 use Rattle.http_front.specs.Written.{http_bytes, phrases, error_bytes}
 
@@ -37,7 +42,7 @@ hello_bytes =
 
 -- one GET, and the 79 bytes of its reply
 one-get : once_of reply_of (codes "hello") one_get ≡ hello_bytes
-unfolding session_from connection_unit next_unit front_of blank_len block_len head_of head_in print_request is_token_byte trim_ows is_utf8 chars encode http_bytes phrases digits reply_of hello one_get hello_bytes line
+unfolding session_from next_unit front_of blank_len block_len content_of percent_decode head_of head_in print_request is_token_byte trim_ows is_utf8 chars encode http_bytes phrases digits reply_of hello one_get hello_bytes line
 one-get = refl
 
 hello-length : length hello_bytes ≡ 79
@@ -45,11 +50,11 @@ unfolding hello_bytes line
 hello-length = refl
 
 empty-input : once_of reply_of (codes "hello") [] ≡ []
-unfolding session_from connection_unit next_unit front_of blank_len block_len
+unfolding session_from next_unit front_of blank_len block_len
 empty-input = refl
 
 cut-head : once_of reply_of (codes "hello") (codes "GET / HT") ≡ []
-unfolding session_from connection_unit next_unit front_of blank_len block_len
+unfolding session_from next_unit front_of blank_len block_len
 cut-head = refl
 
 error_text : List ℕ → List ℕ → List ℕ → List ℕ
@@ -77,18 +82,35 @@ unfolding line
 no_host = line (codes "GET / HTTP/1.1") ++ line []
 
 no-host : once_of reply_of (codes "hello") (no_host ++ one_get) ≡ error_text (codes "400 Bad Request") closing (codes "Error 400.")
-unfolding session_from connection_unit next_unit front_of blank_len block_len head_of head_in print_request is_token_byte trim_ows is_utf8 chars encode http_bytes phrases digits error_text closing no_host one_get line
+unfolding session_from next_unit front_of blank_len block_len content_of percent_decode head_of head_in print_request is_token_byte trim_ows is_utf8 chars encode http_bytes phrases digits error_text closing no_host one_get line
 no-host = refl
 
-empty_post : List ℕ
+gzip_post : List ℕ
 unfolding line
-empty_post = line (codes "POST / HTTP/1.1") ++ line (codes "Host: a") ++ line (codes "Content-Length: 0") ++ line []
+gzip_post = line (codes "POST / HTTP/1.1") ++ line (codes "Host: a") ++ line (codes "Transfer-Encoding: gzip") ++ line []
 
-empty-post : once_of reply_of (codes "hello") empty_post ≡ error_text (codes "501 Not Implemented") closing (codes "Error 501.")
-unfolding session_from connection_unit next_unit front_of blank_len block_len head_of head_in print_request is_token_byte trim_ows is_utf8 chars encode http_bytes phrases digits error_text closing empty_post line
-empty-post = refl
+unknown-coding : once_of reply_of (codes "hello") gzip_post ≡ error_text (codes "501 Not Implemented") closing (codes "Error 501.")
+unfolding session_from next_unit front_of blank_len block_len content_of percent_decode head_of head_in print_request is_token_byte trim_ows is_utf8 chars encode http_bytes phrases digits error_text closing gzip_post line
+unknown-coding = refl
 
 -- a second request
-pipelined-pair : once_of reply_of (codes "hello") (one_get ++ one_get) ≡ hello_bytes ++ error_text (codes "501 Not Implemented") closing (codes "Error 501.")
-unfolding session_from connection_unit next_unit front_of blank_len block_len head_of head_in print_request is_token_byte trim_ows is_utf8 chars encode http_bytes phrases digits reply_of hello hello_bytes error_text closing one_get line
+pipelined-pair : once_of reply_of (codes "hello") (one_get ++ one_get) ≡ hello_bytes ++ hello_bytes
+unfolding session_from next_unit front_of blank_len block_len content_of percent_decode head_of head_in print_request is_token_byte trim_ows is_utf8 chars encode http_bytes phrases digits reply_of hello hello_bytes one_get line
 pipelined-pair = refl
+
+-- the content comes back
+echo : List ℕ → Request → Reply
+echo name r = record { status = 200; fields = []; body = r.body }
+
+-- chunked content with a trailer, which is dropped, behind `Expect`
+chunked_post : List ℕ
+unfolding line
+chunked_post =
+    line (codes "POST / HTTP/1.1") ++ line (codes "Host: a") ++ line (codes "Expect: 100-continue")
+    ++ line (codes "Transfer-Encoding: chunked") ++ line []
+    ++ line (codes "5") ++ line (codes "hello") ++ line (codes "0") ++ line (codes "X: y") ++ line []
+
+chunked-trailer : once_of echo (codes "echo") chunked_post
+    ≡ line (codes "HTTP/1.1 100 Continue") ++ line [] ++ line (codes "HTTP/1.1 200 OK") ++ line (codes "Content-Length: 5") ++ line [] ++ codes "hello"
+unfolding session_from next_unit front_of blank_len block_len content_of line_front first_chunk chunks_in chunk_line_in chunk_size_of print_chunk_line percent_decode head_of head_in print_request is_token_byte trim_ows is_utf8 chars encode http_bytes phrases digits echo chunked_post line
+chunked-trailer = refl

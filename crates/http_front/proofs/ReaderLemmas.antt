@@ -1,86 +1,159 @@
--- What a reader's step uses up.
-use Rattle.std.proofs.Common.{ℕ, ◌≡◌, ◌+◌, ◌≤◌, refl, sym, ap, List, length, take, drop, Bool, true, false, ◌&&◌, nat_le, if◌then◌else◌, Option, Some, None, arith, drop-drop, length-take, length-drop}
+-- What a reader's step uses up, and what is left of its reading.
+use Rattle.std.proofs.Common.{ℕ, ◌≡◌, ◌+◌, ◌≤◌, ◌<◌, refl, sym, ap, ◌∙◌, subst, List, length, take, drop, Bool, true, false, not, ◌&&◌, Option, Some, None, arith, drop-drop, length-drop}
+use Rattle.std.specs.Bool.{⊤}
 use Rattle.httparse.specs.Grammar.{RequestHead}
+use Rattle.unit_types.specs.declared.field.Field.{Field}
+use Rattle.http_front.specs.declared.content.Content.{Content}
+use Rattle.http_front.specs.declared.content.Content.TheVariants.{Whole, Refused, Open}
+use Rattle.http_front.specs.Head.{head_of}
+use Rattle.http_front.specs.Front.{Front, unready, too_long, block, blank_len, front_of, head_limit, head_begun}
+use Rattle.http_front.specs.Message.{fields_of}
+use Rattle.http_front.specs.Target.{is_faulty_target}
+use Rattle.http_front.specs.Checks.{has_too_many_lines, lacks_host, is_ambiguous, has_other_coding, has_faulty_length, is_too_long, refusal_step, refusal_of}
+use Rattle.http_front.specs.Content.{content_of}
+use Rattle.http_front.specs.NextUnit.{Found, request, bad, cut, finished, wait, open_found, content_found, unready_found, end_found, checked_unit, block_unit, front_unit, next_unit}
 use Rattle.unit_types.specs.declared.message.Addr.{Addr}
 use Rattle.http_front.specs.declared.front.Told.{Told}
-use Rattle.http_front.specs.Head.{head_of, lines_in}
-use Rattle.http_front.specs.Front.{unready, too_long, blank_len, block_len, front_found, front_of, head_limit, head_begun, blank_in, block_in}
-use Rattle.http_front.specs.Checks.{has_too_many_lines, first_refusal, head_checks}
-use Rattle.http_front.specs.NextUnit.{Found, request, bad, cut, finished, wait, NextUnit, unready_found, end_found, checked_unit, head_unit, block_unit, front_unit, unserved_or, next_unit, connection_unit}
-use Rattle.http_front.specs.Reading.{Reading, answer_at, is_request, used_by, told_of, behind_found}
-use Rattle.http_front.proofs.BlockLemmas.{block_within, blank_within}
+use Rattle.http_front.specs.Reading.{Reading, reading_of, unit_in, answer_at, is_request, used_by, told_of, asks_now, kept_limit, behind_found, next_reading}
+use Rattle.http_front.proofs.BlockLemmas.{blank_within}
+use Rattle.http_front.proofs.FrontStays.{front_fits}
+use Rattle.http_front.proofs.ContentStays.{FitsContent, content_fits}
 
--- ---- a unit lies in its bytes
+-- ---- a unit lies in its bytes, and a status has three digits
 
-used_checked : (h : RequestHead) (used : ℕ) (refusal : Option ℕ) → used_by (checked_unit h used refusal).found ≤ used
-used_checked h used (Some status) = omega arith
-used_checked h used None = omega arith
+abbrev pub FitsFound : ℕ → Found → Type 0
+FitsFound have (request m used) = used ≤ have
+FitsFound have (bad status) = status < 1000
+FitsFound have cut = ⊤
+FitsFound have finished = ⊤
+FitsFound have wait = ⊤
 
-used_head : (limit used : ℕ) (head : Option RequestHead) → used_by (head_unit limit used head).found ≤ used
-used_head limit used None = omega arith
-used_head limit used (Some h) = used_checked h used (first_refusal (head_checks limit) h)
+fits_open : (have : ℕ) (ended : Bool) → FitsFound have (open_found ended)
+fits_open have false = tt
+fits_open have true = tt
 
-used_block : (many : Bool) (limit used : ℕ) (head : Option RequestHead) → used_by (block_unit many limit used head).found ≤ used
-used_block true limit used head = omega arith
-used_block false limit used head = used_head limit used head
+fits_content : (h : RequestHead) (used left have : ℕ) (ended : Bool) (c : Content) → used + left ≤ have → FitsContent left c → FitsFound have (content_found h used ended c)
+fits_content h used left have ended (Whole content len) low fits = omega (arith, low, fits)
+fits_content h used left have ended (Refused status) low fits = fits
+fits_content h used left have ended Open low fits = fits_open have ended
 
-used_end : (empty : Bool) → used_by (end_found empty) ≡ 0
-used_end true = refl
-used_end false = refl
-
-used_unready : (ended : Bool) (bytes : List ℕ) → used_by (unready_found ended bytes) ≡ 0
-used_unready false bytes = refl
-used_unready true bytes = used_end _
-
-used_front : (limit blank : ℕ) (bytes : List ℕ) (ended : Bool) (found : Option ℕ) → ((n : ℕ) → found ≡ Some n → n ≤ length bytes)
-    → used_by (front_unit limit blank bytes ended (front_found head_limit bytes found)).found ≤ blank + length bytes
-used_front limit blank bytes ended None low = by_long (nat_le head_limit (length bytes))
+-- each check refuses with a small status
+small_refusal : (limit minor : ℕ) (target : List ℕ) (fields : List Field) (status : ℕ) → refusal_of limit minor target fields ≡ Some status → status < 1000
+small_refusal limit minor target fields status is =
+    by_six (is_faulty_target target) (lacks_host minor fields) (is_ambiguous minor fields) (has_other_coding fields) (has_faulty_length fields) (is_too_long limit fields) is
   where
-    by_long : (long : Bool) → used_by (front_unit limit blank bytes ended (if long then too_long else unready)).found ≤ blank + length bytes
-    by_long true = omega arith
-    by_long false = let none = used_unready ended bytes in omega (arith, none)
-used_front limit blank bytes ended (Some n) low =
-    let used = used_block (has_too_many_lines (take n bytes)) limit (blank + n) (head_of (take n bytes)) in
-    let fits = low n refl in
-    omega (arith, used, fits)
+    small : (n : ℕ) → n < 1000 → Some n ≡ Some status → status < 1000
+    small n low same = let e : n ≡ status = cc in omega (arith, low, e)
 
-used_unserved : (begun : Bool) (unit : NextUnit) (n : ℕ) → used_by unit.found ≤ n → used_by (unserved_or begun unit).found ≤ n
-used_unserved true unit n low = omega arith
-used_unserved false unit n low = low
+    by_six : (a b c d e f : Bool)
+        → refusal_step a 400 (refusal_step b 400 (refusal_step c 400 (refusal_step d 501 (refusal_step e 400 (refusal_step f 413 None))))) ≡ Some status → status < 1000
+    by_six true b c d e f is = small 400 (omega arith) is
+    by_six false true c d e f is = small 400 (omega arith) is
+    by_six false false true d e f is = small 400 (omega arith) is
+    by_six false false false true e f is = small 501 (omega arith) is
+    by_six false false false false true f is = small 400 (omega arith) is
+    by_six false false false false false true is = small 413 (omega arith) is
+    by_six false false false false false false is = absurd (cc)
 
-pub used_within : (is_later : Bool) (bytes : List ℕ) (ended : Bool) (limit : ℕ) → used_by (connection_unit is_later bytes ended limit).found ≤ length bytes
-unfolding connection_unit next_unit front_of blank_len block_len
-used_within is_later bytes ended limit =
-    let blank = blank_in (lines_in bytes) in
+fits_checked : (h : RequestHead) (limit used have : ℕ) (rest : List ℕ) (ended : Bool) (refusal : Option ℕ) → used + length rest ≤ have
+    → ((status : ℕ) → refusal ≡ Some status → status < 1000) → FitsFound have (checked_unit h limit used rest ended refusal).found
+fits_checked h limit used have rest ended (Some status) low small = small status refl
+fits_checked h limit used have rest ended None low small =
+    fits_content h used (length rest) have ended (content_of limit (fields_of h) rest) low (content_fits limit (fields_of h) rest)
+
+fits_block : (many : Bool) (limit used have : ℕ) (rest : List ℕ) (ended : Bool) (head : Option RequestHead) → used + length rest ≤ have
+    → FitsFound have (block_unit many limit used rest ended head).found
+fits_block true limit used have rest ended head low = omega arith
+fits_block false limit used have rest ended None low = omega arith
+fits_block false limit used have rest ended (Some h) low =
+    fits_checked h limit used have rest ended (refusal_of limit h.minor h.target (fields_of h)) low (small_refusal limit h.minor h.target (fields_of h))
+
+fits_end : (have : ℕ) (empty : Bool) → FitsFound have (end_found empty)
+fits_end have true = tt
+fits_end have false = tt
+
+fits_unready : (have : ℕ) (ended : Bool) (bytes : List ℕ) → FitsFound have (unready_found ended bytes)
+fits_unready have false bytes = tt
+fits_unready have true bytes = fits_end have _
+
+fits_front : (limit blank have : ℕ) (bytes : List ℕ) (ended : Bool) (front : Front) → blank + length bytes ≤ have → ((n : ℕ) → front ≡ block n → n ≤ length bytes)
+    → FitsFound have (front_unit limit blank bytes ended front).found
+fits_front limit blank have bytes ended unready low within = fits_unready have ended bytes
+fits_front limit blank have bytes ended too_long low within = omega arith
+fits_front limit blank have bytes ended (block n) low within =
+    let inside = within n refl in
+    fits_block (has_too_many_lines (take n bytes)) limit (blank + n) have (drop n bytes) ended (head_of (take n bytes)) (omega (arith, low, inside, length-drop n bytes))
+
+unit_fits : (bytes : List ℕ) (ended : Bool) (limit : ℕ) → FitsFound (length bytes) (next_unit bytes ended limit).found
+unfolding next_unit blank_len
+unit_fits bytes ended limit =
+    let blank = blank_len bytes in
     let rest = drop blank bytes in
     let passed = blank_within bytes in
-    let front = used_front limit blank rest ended (block_in (lines_in (take head_limit rest)))
-    (λ n is. let low = block_within (take head_limit rest) n is in omega (arith, low, length-take head_limit rest)) in
-    used_unserved (is_later && head_begun bytes) _ (length bytes) (omega (arith, front, passed, length-drop blank bytes))
+    fits_front limit blank (length bytes) rest ended (front_of head_limit rest) (omega (arith, passed, length-drop blank bytes)) (front_fits head_limit rest)
+
+used_found : (have : ℕ) (f : Found) → FitsFound have f → used_by f ≤ have
+used_found have (request m used) fits = fits
+used_found have (bad status) fits = omega arith
+used_found have cut fits = omega arith
+used_found have finished fits = omega arith
+used_found have wait fits = omega arith
+
+pub used_within : (bytes : List ℕ) (ended : Bool) (limit : ℕ) → used_by (next_unit bytes ended limit).found ≤ length bytes
+used_within bytes ended limit = used_found (length bytes) (next_unit bytes ended limit).found (unit_fits bytes ended limit)
+
+pub small_status : (bytes : List ℕ) (ended : Bool) (limit status : ℕ) → (next_unit bytes ended limit).found ≡ bad status → status < 1000
+small_status bytes ended limit status is = subst (λ (f : Found). FitsFound (length bytes) f) is (unit_fits bytes ended limit)
 
 -- ---- a reader's step
 
-abbrev pub reading_at : Addr → Addr → List ℕ → ℕ → Bool → Bool → Reading
-reading_at from to items used ended is_later = record { from = from; to = to; unread = drop used items; ended = ended; is_later = is_later }
+abbrev pub reading_at : Addr → Addr → List ℕ → ℕ → Bool → Option ℕ → Bool → Reading
+reading_at from to items used ended limit is_told = record { from = from; to = to; unread = drop used items; ended = ended; limit = limit; is_told = is_told }
 
-pub step_request : (from to : Addr) (items : List ℕ) (used : ℕ) (ended is_later : Bool) (f : Found) (told : Told) → told ≡ told_of from to f
-    → is_request told.answer ≡ true → reading_at from to items (used + told.used) ended true ≡ behind_found (reading_at from to items used ended is_later) f
-step_request from to items used ended is_later f told is asks = rw is (by_found f (rw is at asks))
+-- what a step tells of a reading
+abbrev pub IsToldOf : Reading → ℕ → Told → Type 0
+IsToldOf r limit told = told ≡ told_of r.from r.to (head_begun r.unread) (unit_in r limit)
+
+pub step_continue : (r : Reading) (limit : ℕ) (told : Told) → IsToldOf r limit told → (told.is_due && not r.is_told) ≡ true
+    → record r { limit = kept_limit told.is_begun r.limit limit; is_told = true } ≡ next_reading r limit
+step_continue r limit told is asks =
+    let begun : told.is_begun ≡ head_begun r.unread = ap (λ (t : Told). t.is_begun) is in
+    let due : asks_now r (unit_in r limit) ≡ true = ap (λ (t : Told). t.is_due && not r.is_told) (sym is) ∙ asks in
+    rw (begun, due) refl
+
+not_asks : (r : Reading) (limit : ℕ) (told : Told) → IsToldOf r limit told → (told.is_due && not r.is_told) ≡ false → asks_now r (unit_in r limit) ≡ false
+not_asks r limit told is asks = ap (λ (t : Told). t.is_due && not r.is_told) (sym is) ∙ asks
+
+pub step_request : (from to : Addr) (items : List ℕ) (used : ℕ) (ended : Bool) (kept : Option ℕ) (is_told : Bool) (limit : ℕ) (told : Told)
+    → IsToldOf (reading_at from to items used ended kept is_told) limit told → (told.is_due && not is_told) ≡ false → is_request told.answer ≡ true
+    → reading_at from to items (used + told.used) ended None false ≡ next_reading (reading_at from to items used ended kept is_told) limit
+step_request from to items used ended kept is_told limit told is asks serves =
+    let r = reading_at from to items used ended kept is_told in
+    let idle : asks_now r (unit_in r limit) ≡ false = not_asks r limit told is asks in
+    let uses : told.used ≡ used_by (unit_in r limit).found = ap (λ (t : Told). t.used) is in
+    let served : is_request (answer_at from to (unit_in r limit).found) ≡ true = ap (λ (t : Told). is_request t.answer) (sym is) ∙ serves in
+    rw (idle, uses) (by_found (unit_in r limit).found served)
   where
     by_found : (g : Found) → is_request (answer_at from to g) ≡ true
-        → reading_at from to items (used + used_by g) ended true ≡ behind_found (reading_at from to items used ended is_later) g
-    by_found (request m n) asks = ap (λ bytes. record { from = from; to = to; unread = bytes; ended = ended; is_later = true }) (sym (drop-drop n used items))
+        → reading_at from to items (used + used_by g) ended None false
+        ≡ behind_found (reading_at from to items used ended (kept_limit (head_begun (drop used items)) kept limit) is_told) g
+    by_found (request m n) asks = ap (λ bytes. reading_of from to bytes ended) (sym (drop-drop n used items))
     by_found (bad status) asks = cc
     by_found cut asks = cc
     by_found finished asks = cc
     by_found wait asks = cc
 
-pub step_other : (r : Reading) (f : Found) (told : Told) → told ≡ told_of r.from r.to f → is_request told.answer ≡ false → r ≡ behind_found r f
-step_other r f told is other = by_found f (rw is at other)
+pub step_other : (r : Reading) (limit : ℕ) (told : Told) → IsToldOf r limit told → (told.is_due && not r.is_told) ≡ false → is_request told.answer ≡ false
+    → record r { limit = kept_limit told.is_begun r.limit limit } ≡ next_reading r limit
+step_other r limit told is asks serves =
+    let idle : asks_now r (unit_in r limit) ≡ false = not_asks r limit told is asks in
+    let begun : told.is_begun ≡ head_begun r.unread = ap (λ (t : Told). t.is_begun) is in
+    let none : is_request (answer_at r.from r.to (unit_in r limit).found) ≡ false = ap (λ (t : Told). is_request t.answer) (sym is) ∙ serves in
+    rw (idle, begun) (by_found (record r { limit = kept_limit (head_begun r.unread) r.limit limit }) (unit_in r limit).found none)
   where
-    by_found : (g : Found) → is_request (answer_at r.from r.to g) ≡ false → r ≡ behind_found r g
-    by_found (request m n) other = cc
-    by_found (bad status) other = refl
-    by_found cut other = refl
-    by_found finished other = refl
-    by_found wait other = refl
+    by_found : (q : Reading) (g : Found) → is_request (answer_at q.from q.to g) ≡ false → q ≡ behind_found q g
+    by_found q (request m n) other = cc
+    by_found q (bad status) other = refl
+    by_found q cut other = refl
+    by_found q finished other = refl
+    by_found q wait other = refl

@@ -1,7 +1,6 @@
 -- A request out of a head whose parts stand at places of its block.
-use Rattle.std.proofs.Common.{ℕ, ◌≡◌, ◌+◌, ◌≤◌, refl, sym, ap, ◌∙◌, List, [], ◌∷◌, length, take, drop, map, IsTrue, Some, None, arith, slice_range, length-take, length-drop}
-use Rattle.std.specs.List.{All, AllByRecursion, position_or_len, position}
-use Rattle.std.proofs.lemmas.List.{take_all}
+use Rattle.std.proofs.Common.{ℕ, ◌≡◌, ◌≤◌, refl, sym, ap, ◌∙◌, List, [], ◌∷◌, length, take, map, IsTrue, arith, slice_range, length-take, length-drop}
+use Rattle.std.specs.List.{All, AllByRecursion}
 use Rattle.std.proofs.lemmas.List.Elements.{All-from_recursion, recursion_from_All, All-weaker}
 use Rattle.httparse.specs.Grammar.{RequestHead, IsField, IsRequestHead, field_value, is_token_byte}
 use Rattle.httparse.specs.Grammar as grammar
@@ -10,24 +9,8 @@ use Rattle.httparse.specs.declared.spans.HeaderSpan.{HeaderSpan}
 use Rattle.httparse.specs.declared.spans.RequestSpans.{RequestSpans}
 use Rattle.http_header.specs.Token as token
 use Rattle.unit_types.specs.declared.field.Field.{Field}
-use Rattle.http_front.proofs.Cuts.{place_some, place_none, drop_past}
-use Rattle.http_front.specs.Message.{lowercase, field_of, field_at, HasFieldName, is_question, path_of, query_of}
-
--- ---- a target cut at its question mark
-
-pub path_at : (xs : List ℕ) (n : ℕ) → Some n ≡ position is_question xs → take n xs ≡ path_of xs
-path_at xs n place = ap (λ k. take k xs) (place_some is_question xs n place)
-
-pub query_at : (xs : List ℕ) (n : ℕ) → Some n ≡ position is_question xs → drop (n + 1) xs ≡ query_of xs
-query_at xs n place = ap (λ k. drop (k + 1) xs) (place_some is_question xs n place)
-
-pub path_none : (xs : List ℕ) → None ≡ position is_question xs → xs ≡ path_of xs
-path_none xs place = sym (take_all (position_or_len is_question xs) xs (place_none is_question xs place))
-
-pub query_none : (xs : List ℕ) → None ≡ position is_question xs → [] ≡ query_of xs
-query_none xs place =
-    let past = place_none is_question xs place in
-    sym (drop_past (position_or_len is_question xs + 1) xs (omega (arith, past)))
+use Rattle.http_front.specs.Text.{lowercase}
+use Rattle.http_front.specs.Message.{field_of, field_at, HasFieldName}
 
 -- ---- fields at their places
 

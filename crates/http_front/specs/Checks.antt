@@ -1,102 +1,110 @@
--- The checks of a head, in their order (RFC 9112, section 3; RFC 9110, section 15.5).
-use Rattle.std.specs.Prelude.{ℕ, Bool, true, false, not, ◌&&◌, ◌||◌, List, [], ◌∷◌, length, ◌==◌, nat_lt, Option, Some, None, codes, if◌then◌else◌, bytes_eq}
-use Rattle.std.specs.List.{list_all, list_any, count_by}
-use Rattle.std.specs.Char.{is_ascii_alphanumeric}
-use Rattle.httparse.specs.Ascii.{del}
-use Rattle.httparse.specs.Grammar.{RequestHead}
+-- The checks of a head, in their order (RFC 9112, sections 3 and 6; RFC 9110, section 15.5).
+use Rattle.std.specs.Prelude.{ℕ, ◌+◌, ◌-◌, ◌*◌, Bool, true, false, not, ◌&&◌, ◌||◌, List, [], ◌∷◌, length, ◌==◌, nat_lt, Option, Some, None, codes, if◌then◌else◌, bytes_eq}
+use Rattle.std.specs.List.{list_all}
+use Rattle.std.specs.Char.{is_ascii_digit}
 use Rattle.unit_types.specs.declared.field.Field.{Field}
-use Rattle.unit_types.specs.declared.message.Request.{Request}
 use Rattle.http_front.specs.Head.{lines_in}
-use Rattle.http_front.specs.Message.{fields_of, is_host, path_of, query_of}
+use Rattle.http_front.specs.Text.{lowercase}
+use Rattle.http_front.specs.Fields.{count_of, value_of, has_some}
+use Rattle.http_front.specs.Target.{is_faulty_target}
 
 -- more than 100 lines between the request line and the empty line: the fields are too large (431, RFC 6585, section 5)
 abbrev pub has_too_many_lines : List ℕ → Bool
 has_too_many_lines block = nat_lt 102 (length (lines_in block))
 
--- a check of a head: the status that refuses it, and whether it does
+-- a check of a head: the status that refuses it, and whether it does, by the minor version, the target and the fields
 pub record Check : Type 0 where
   pub status : ℕ
-  pub refuses : RequestHead → Bool
+  pub refuses : ℕ → List ℕ → List Field → Bool
 
--- what a server of plain GET requests does not implement yet (501, RFC 9110, section 15.6.2). Later work takes this away.
-
--- a byte of a plain path: a letter, a digit, `-`, `_` or `/`
-abbrev pub is_plain_byte : ℕ → Bool
-is_plain_byte b = is_ascii_alphanumeric b || b == 45 || b == 95 || b == 47
-
-abbrev pub begins_with_slash : List ℕ → Bool
-begins_with_slash [] = false
-begins_with_slash (b ∷ _) = b == 47
-
--- two slashes stand in a row
-abbrev pub has_double_slash : List ℕ → Bool
-has_double_slash [] = false
-has_double_slash (b ∷ text) = (b == 47 && begins_with_slash text) || has_double_slash text
-
-abbrev pub has_plain_bytes : List ℕ → Bool
-has_plain_bytes path = list_all is_plain_byte path
-
--- a path without escapes and dots: it is its own normal form
-abbrev pub is_plain_path : List ℕ → Bool
-is_plain_path path = begins_with_slash path && has_plain_bytes path && not (has_double_slash path)
-
--- a byte of a plain query: visible ASCII but `#`
-abbrev pub is_query_byte : ℕ → Bool
-is_query_byte b = nat_lt 32 b && nat_lt b del && not (b == 35)
-
-abbrev pub is_plain_query : List ℕ → Bool
-is_plain_query query = list_all is_query_byte query
-
--- a field that says how a content is framed, or what becomes of the connection
-abbrev pub is_unserved_name : List ℕ → Bool
-is_unserved_name name =
-    bytes_eq name (codes "content-length") || bytes_eq name (codes "transfer-encoding") || bytes_eq name (codes "connection")
-
-abbrev pub has_unserved_field : List Field → Bool
-has_unserved_field fields = list_any (λ f. is_unserved_name f.name) fields
-
-abbrev pub is_unserved_at : List ℕ → ℕ → List Field → List ℕ → List ℕ → Bool
-is_unserved_at method minor fields path query =
-    not (bytes_eq method (codes "GET"))
-    || not (minor == 1)
-    || has_unserved_field fields
-    || not (is_plain_path path)
-    || not (is_plain_query query)
-
-abbrev pub is_unserved : RequestHead → Bool
-is_unserved h = is_unserved_at h.method h.minor (fields_of h) (path_of h.target) (query_of h.target)
-
-abbrev pub unserved_check : Check
-unserved_check = record { status = 501; refuses = is_unserved }
+-- the target is of no form that is served (400, RFC 9112, section 3.2)
+abbrev pub target_check : Check
+target_check = record { status = 400; refuses = λ minor target fields. is_faulty_target target }
 
 -- exactly one Host field in HTTP/1.1, at most one in HTTP/1.0 (400, RFC 9112, section 3.2)
-abbrev pub host_count : List Field → ℕ
-host_count fields = count_by is_host fields
-
-abbrev pub lacks_host_at : ℕ → List Field → Bool
-lacks_host_at minor fields = if minor == 1 then not (host_count fields == 1) else nat_lt 1 (host_count fields)
-
-abbrev pub lacks_host : RequestHead → Bool
-lacks_host h = lacks_host_at h.minor (fields_of h)
+abbrev pub lacks_host : ℕ → List Field → Bool
+lacks_host minor fields =
+    if minor == 1 then not (count_of (codes "host") fields == 1) else nat_lt 1 (count_of (codes "host") fields)
 
 abbrev pub host_check : Check
-host_check = record { status = 400; refuses = lacks_host }
+host_check = record { status = 400; refuses = λ minor target fields. lacks_host minor fields }
+
+-- Transfer-Encoding stands beside Content-Length, or in HTTP/1.0, which has none: a sign of smuggling (400, RFC 9112,
+-- sections 6.1 and 6.3)
+abbrev pub has_length : List Field → Bool
+has_length fields = has_some (codes "content-length") fields
+
+abbrev pub has_coding : List Field → Bool
+has_coding fields = has_some (codes "transfer-encoding") fields
+
+abbrev pub is_ambiguous : ℕ → List Field → Bool
+is_ambiguous minor fields = has_coding fields && (has_length fields || minor == 0)
+
+abbrev pub framing_check : Check
+framing_check = record { status = 400; refuses = λ minor target fields. is_ambiguous minor fields }
+
+-- the only transfer coding that is understood is `chunked` alone (501, RFC 9112, section 6.1)
+abbrev pub is_chunked : List Field → Bool
+is_chunked fields =
+    count_of (codes "transfer-encoding") fields == 1
+    && bytes_eq (lowercase (value_of (codes "transfer-encoding") fields)) (codes "chunked")
+
+abbrev pub has_other_coding : List Field → Bool
+has_other_coding fields = has_coding fields && not (is_chunked fields)
+
+abbrev pub coding_check : Check
+coding_check = record { status = 501; refuses = λ minor target fields. has_other_coding fields }
+
+abbrev pub has_digits : List ℕ → Bool
+has_digits text = list_all is_ascii_digit text
+
+-- Content-Length = 1*DIGIT (RFC 9110, section 8.6), here of at most 19 digits, and stands once (400, RFC 9112, section 6.3)
+abbrev pub is_length_text : List ℕ → Bool
+is_length_text text = nat_lt 0 (length text) && nat_lt (length text) 20 && has_digits text
+
+abbrev pub length_text : List Field → List ℕ
+length_text fields = value_of (codes "content-length") fields
+
+abbrev pub has_faulty_length : List Field → Bool
+has_faulty_length fields =
+    has_length fields && not (count_of (codes "content-length") fields == 1 && is_length_text (length_text fields))
+
+abbrev pub length_check : Check
+length_check = record { status = 400; refuses = λ minor target fields. has_faulty_length fields }
+
+-- the number that decimal digits write behind those of n
+abbrev pub number_from : ℕ → List ℕ → ℕ
+number_from n [] = n
+number_from n (b ∷ text) = number_from (10 * n + (b - 48)) text
+
+abbrev pub number_of : List ℕ → ℕ
+number_of text = number_from 0 text
+
+-- the length of the content, which is 0 without Content-Length
+abbrev pub content_length : List Field → ℕ
+content_length fields = number_of (length_text fields)
+
+-- the content is longer than what is taken (413, RFC 9110, section 15.5.14)
+abbrev pub is_too_long : ℕ → List Field → Bool
+is_too_long limit fields = nat_lt limit (content_length fields)
+
+abbrev pub size_check : ℕ → Check
+size_check limit = record { status = 413; refuses = λ minor target fields. is_too_long limit fields }
 
 -- the checks of a head that the grammar has, in their order, given the largest content that is taken
 abbrev pub head_checks : ℕ → List Check
-head_checks limit = unserved_check ∷ host_check ∷ []
+head_checks limit =
+    target_check ∷ host_check ∷ framing_check ∷ coding_check ∷ length_check ∷ size_check limit ∷ []
 
 -- the status of the first check that refuses the head
 abbrev pub refusal_step : Bool → ℕ → Option ℕ → Option ℕ
 refusal_step true status rest = Some status
 refusal_step false status rest = rest
 
-abbrev pub first_refusal : List Check → RequestHead → Option ℕ
-first_refusal [] h = None
-first_refusal (check ∷ checks) h = refusal_step (check.refuses h) check.status (first_refusal checks h)
+abbrev pub first_refusal : List Check → ℕ → List ℕ → List Field → Option ℕ
+first_refusal [] minor target fields = None
+first_refusal (check ∷ checks) minor target fields =
+    refusal_step (check.refuses minor target fields) check.status (first_refusal checks minor target fields)
 
--- the same of a request made of the head
-abbrev pub request_refusal : Request → Option ℕ
-request_refusal r =
-    refusal_step (is_unserved_at r.method r.minor r.fields r.path r.query) 501
-    (refusal_step (lacks_host_at r.minor r.fields) 400 None)
+abbrev pub refusal_of : ℕ → ℕ → List ℕ → List Field → Option ℕ
+refusal_of limit minor target fields = first_refusal (head_checks limit) minor target fields

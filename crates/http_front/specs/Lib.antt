@@ -1,7 +1,13 @@
+pub mod Text
 pub mod Head
 pub mod Front
+pub mod Fields
+pub mod Target
 pub mod Message
 pub mod Checks
+pub mod ChunkLine
+pub mod Chunks
+pub mod Content
 pub mod NextUnit
 pub mod Written
 pub mod Session

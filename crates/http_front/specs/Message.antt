@@ -1,7 +1,7 @@
 -- What a head says of its request (RFC 9110, section 7; RFC 9112, section 3).
-use Rattle.std.specs.Prelude.{ℕ, ◌-◌, Bool, ◌&&◌, ◌||◌, List, [], ◌∷◌, length, take, map, reverse, slice_index, ◌==◌, nat_lt, Option, Some, None, codes, if◌then◌else◌, bytes_eq}
-use Rattle.std.specs.List.{list_any, find, before_first, after_first, slice_split}
-use Rattle.std.specs.Char.{is_ascii_digit, to_ascii_lowercase}
+use Rattle.std.specs.Prelude.{ℕ, ◌-◌, Bool, ◌&&◌, ◌||◌, List, [], ◌∷◌, length, take, map, reverse, slice_index, ◌==◌, nat_lt, codes, if◌then◌else◌, bytes_eq}
+use Rattle.std.specs.List.{list_any, slice_split}
+use Rattle.std.specs.Char.{is_ascii_digit}
 use Rattle.httparse.specs.Ascii.{colon, comma}
 use Rattle.httparse.specs.Grammar.{RequestHead, field_value, trim_ows}
 use Rattle.httparse.specs.Grammar as grammar
@@ -11,10 +11,10 @@ use Rattle.http_header.specs.FieldName.{IsFieldName}
 use Rattle.unit_types.specs.declared.field.Field.{Field}
 use Rattle.unit_types.specs.declared.message.Addr.{Addr}
 use Rattle.unit_types.specs.declared.message.Request.{Request}
-
--- a text with its ASCII letters in lower case
-abbrev pub lowercase : List ℕ → List ℕ
-lowercase text = map to_ascii_lowercase text
+use Rattle.path_normal.specs.Path.{normal_path_of}
+use Rattle.http_front.specs.Text.{lowercase}
+use Rattle.http_front.specs.Fields.{is_named, value_of}
+use Rattle.http_front.specs.Target.{has_scheme, authority_of, raw_path_of, query_of}
 
 -- the field as a request has it: its name in lower case, its value without the white space around it (RFC 9110, sections 5.1 and 5.5)
 abbrev pub field_of : grammar.Field → Field
@@ -29,21 +29,6 @@ field_at block header = record { name = lowercase (span_bytes block header.name)
 
 abbrev pub HasFieldName : List ℕ → HeaderSpan → Type 0
 HasFieldName block header = IsFieldName (span_bytes block header.name)
-
--- whether a field of a request has that name
-abbrev pub is_named : List ℕ → Field → Bool
-is_named name f = bytes_eq f.name name
-
-abbrev pub is_question : ℕ → Bool
-is_question b = b == 63
-
--- the path of a target: what stands before its first `?` (RFC 3986, section 3.3)
-abbrev pub path_of : List ℕ → List ℕ
-path_of target = before_first is_question target
-
--- the query of a target: what stands behind its first `?` (RFC 3986, section 3.4)
-abbrev pub query_of : List ℕ → List ℕ
-query_of target = after_first is_question target
 
 -- whether the text ends in that byte
 abbrev pub ends_in : ℕ → List ℕ → Bool
@@ -69,20 +54,13 @@ without_port text = if ends_in colon (without_digits text) then without_last (wi
 abbrev pub without_period : List ℕ → List ℕ
 without_period text = if ends_in 46 text then without_last text else text
 
--- the host that a request is for: the value of its first Host field, or nothing, in lower case, without port and final
--- period (RFC 9110, section 7.2)
-abbrev pub value_or_empty : Option Field → List ℕ
-value_or_empty None = []
-value_or_empty (Some f) = f.value
+-- the host that a request is for: the authority of its target, or else the value of its Host field, or nothing, in lower
+-- case, without port and final period (RFC 9110, section 7.2; RFC 9112, section 3.2.2)
+abbrev pub host_in : List ℕ → List Field → List ℕ
+host_in target fields = if has_scheme target then authority_of target else value_of (codes "host") fields
 
-abbrev pub is_host : Field → Bool
-is_host f = is_named (codes "host") f
-
-abbrev pub host_value : List Field → List ℕ
-host_value fields = value_or_empty (find is_host fields)
-
-abbrev pub host_of : List Field → List ℕ
-host_of fields = lowercase (without_period (without_port (host_value fields)))
+abbrev pub host_of : List ℕ → List Field → List ℕ
+host_of target fields = lowercase (without_period (without_port (host_in target fields)))
 
 -- a request as its bytes say it: all but the addresses of its connection
 pub record Message : Type 0 where
@@ -99,9 +77,9 @@ abbrev pub message_of : RequestHead → List ℕ → Message
 message_of h content = record {
   method = h.method;
   target = h.target;
-  path = path_of h.target;
+  path = normal_path_of (raw_path_of h.target);
   query = query_of h.target;
-  host = host_of (fields_of h);
+  host = host_of h.target (fields_of h);
   minor = h.minor;
   fields = fields_of h;
   body = content;

@@ -1,10 +1,13 @@
 -- What stands at the front of the bytes of a connection (RFC 9112, sections 2, 3 and 6), told from the whole list at once.
-use Rattle.std.specs.Prelude.{ℕ, ◌+◌, Bool, true, false, List, [], length, take, drop, ◌==◌, Option, Some, None, ◌&&◌}
+use Rattle.std.specs.Prelude.{ℕ, ◌+◌, Bool, true, false, List, length, take, drop, ◌==◌, Option, Some, None}
 use Rattle.httparse.specs.Grammar.{RequestHead}
 use Rattle.http_front.specs.Head.{head_of}
-use Rattle.http_front.specs.Front.{Front, unready, too_long, block, blank_len, front_found, front_of, head_limit, head_begun}
-use Rattle.http_front.specs.Message.{Message, message_of}
-use Rattle.http_front.specs.Checks.{has_too_many_lines, head_checks, first_refusal}
+use Rattle.http_front.specs.Front.{Front, unready, too_long, block, blank_len, front_found, front_of, head_limit}
+use Rattle.http_front.specs.Message.{Message, fields_of, message_of}
+use Rattle.http_front.specs.Checks.{has_too_many_lines, refusal_of}
+use Rattle.http_front.specs.declared.content.Content.{Content}
+use Rattle.http_front.specs.declared.content.Content.TheVariants.{Whole, Refused, Open}
+use Rattle.http_front.specs.Content.{content_of, is_continue_due}
 
 -- a request and how many bytes it uses; a status that refuses the bytes; an input that ends inside a request, or between
 -- requests; or more bytes are needed
@@ -24,23 +27,37 @@ pub record NextUnit : Type 0 where
 abbrev pub plainly : Found → NextUnit
 plainly found = record { continue_due = false; found = found }
 
--- the content behind a head that the checks let through: a request without Content-Length and Transfer-Encoding has none
--- (RFC 9112, section 6.3)
-abbrev pub content_unit : RequestHead → ℕ → NextUnit
-content_unit h used = plainly (request (message_of h []) used)
+-- without a whole request: the input ended inside it, or more bytes are needed
+abbrev pub open_found : Bool → Found
+open_found false = wait
+open_found true = cut
 
-abbrev pub checked_unit : RequestHead → ℕ → Option ℕ → NextUnit
-checked_unit h used (Some status) = plainly (bad status)
-checked_unit h used None = content_unit h used
+-- the request of a head with its content
+abbrev pub content_found : RequestHead → ℕ → Bool → Content → Found
+content_found h used ended (Whole content len) = request (message_of h content) (used + len)
+content_found h used ended (Refused status) = bad status
+content_found h used ended Open = open_found ended
+
+abbrev pub content_unit : RequestHead → ℕ → ℕ → List ℕ → Bool → NextUnit
+content_unit h limit used rest ended = record {
+  continue_due = is_continue_due h.minor (fields_of h);
+  found = content_found h used ended (content_of limit (fields_of h) rest);
+}
+
+-- a head that a check refuses asks for no content
+abbrev pub checked_unit : RequestHead → ℕ → ℕ → List ℕ → Bool → Option ℕ → NextUnit
+checked_unit h limit used rest ended (Some status) = plainly (bad status)
+checked_unit h limit used rest ended None = content_unit h limit used rest ended
 
 -- a block that is no head of the grammar is refused (400, RFC 9112, section 2.2), and then the checks decide
-abbrev pub head_unit : ℕ → ℕ → Option RequestHead → NextUnit
-head_unit limit used None = plainly (bad 400)
-head_unit limit used (Some h) = checked_unit h used (first_refusal (head_checks limit) h)
+abbrev pub head_unit : ℕ → ℕ → List ℕ → Bool → Option RequestHead → NextUnit
+head_unit limit used rest ended None = plainly (bad 400)
+head_unit limit used rest ended (Some h) =
+    checked_unit h limit used rest ended (refusal_of limit h.minor h.target (fields_of h))
 
-abbrev pub block_unit : Bool → ℕ → ℕ → Option RequestHead → NextUnit
-block_unit true limit used head = plainly (bad 431)
-block_unit false limit used head = head_unit limit used head
+abbrev pub block_unit : Bool → ℕ → ℕ → List ℕ → Bool → Option RequestHead → NextUnit
+block_unit true limit used rest ended head = plainly (bad 431)
+block_unit false limit used rest ended head = head_unit limit used rest ended head
 
 -- without a whole block within the limit: empty lines alone are no request
 abbrev pub end_found : Bool → Found
@@ -56,11 +73,11 @@ abbrev pub front_unit : ℕ → ℕ → List ℕ → Bool → Front → NextUnit
 front_unit limit blank bytes ended unready = plainly (unready_found ended bytes)
 front_unit limit blank bytes ended too_long = plainly (bad 431)
 front_unit limit blank bytes ended (block n) =
-    block_unit (has_too_many_lines (take n bytes)) limit (blank + n) (head_of (take n bytes))
+    block_unit (has_too_many_lines (take n bytes)) limit (blank + n) (drop n bytes) ended (head_of (take n bytes))
 
 -- the same without a whole block
-abbrev pub without_block : ℕ → List ℕ → Bool → Found
-without_block limit bytes ended = (front_unit 0 0 bytes ended (front_found limit bytes None)).found
+abbrev pub without_block : ℕ → List ℕ → Bool → NextUnit
+without_block limit bytes ended = front_unit 0 0 bytes ended (front_found limit bytes None)
 
 -- what stands at the front of the bytes, given whether the input ended behind them and the largest content that is taken.
 -- Empty lines before a request are dropped (RFC 9112, section 2.2).
@@ -69,13 +86,3 @@ unit_behind blank bytes ended limit = front_unit limit blank bytes ended (front_
 
 unfoldable pub next_unit : List ℕ → Bool → ℕ → NextUnit
 next_unit bytes ended limit = unit_behind (blank_len bytes) (drop (blank_len bytes) bytes) ended limit
-
--- the same at the front of what a connection has left. A second request is refused as soon as its head has begun to be
--- answered (501, RFC 9110, section 15.6.2). Later work takes this away.
-abbrev pub unserved_or : Bool → NextUnit → NextUnit
-unserved_or true unit = plainly (bad 501)
-unserved_or false unit = unit
-
-unfoldable pub connection_unit : Bool → List ℕ → Bool → ℕ → NextUnit
-connection_unit is_later bytes ended limit =
-    unserved_or (is_later && head_begun bytes) (next_unit bytes ended limit)

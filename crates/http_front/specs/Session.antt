@@ -5,7 +5,7 @@ use Rattle.unit_types.specs.declared.message.Request.{Request}
 use Rattle.unit_types.specs.declared.message.Reply.{Reply}
 use Rattle.http_front.specs.Front.{head_begun}
 use Rattle.http_front.specs.Message.{request_of, is_head_request, is_last_request}
-use Rattle.http_front.specs.NextUnit.{Found, request, bad, cut, finished, wait, NextUnit, connection_unit}
+use Rattle.http_front.specs.NextUnit.{Found, request, bad, cut, finished, wait, NextUnit, next_unit}
 use Rattle.http_front.specs.Written.{http_bytes, error_bytes, continue_bytes}
 
 -- a connection: its two addresses, the largest content that it takes, and the bytes that answer a request, given whether
@@ -44,10 +44,10 @@ abbrev pub unit_session : Connection → ℕ → List ℕ → (List ℕ → Sess
 unit_session c left bytes rest unit = behind (continue_bytes unit.continue_due) (found_session c left bytes rest unit.found)
 
 -- the walk over the requests of a connection, of which this many may still come
-unfoldable pub session_from : Connection → Bool → Bool → ℕ → List ℕ → Session
-session_from c ended is_later zero bytes = record { written = []; closed = true }
-session_from c ended is_later (suc left) bytes =
-    unit_session c left bytes (session_from c ended true left) (connection_unit is_later bytes ended c.limit)
+unfoldable pub session_from : Connection → Bool → ℕ → List ℕ → Session
+session_from c ended zero bytes = record { written = []; closed = true }
+session_from c ended (suc left) bytes =
+    unit_session c left bytes (session_from c ended left) (next_unit bytes ended c.limit)
 
 -- the most requests of a connection
 abbrev pub request_limit : ℕ
@@ -55,7 +55,7 @@ request_limit = 1000
 
 -- the session of the bytes of a connection, given whether the input ended behind them
 abbrev pub session_of : Connection → Bool → List ℕ → Session
-session_of c ended bytes = session_from c ended false request_limit bytes
+session_of c ended bytes = session_from c ended request_limit bytes
 
 -- the answer to a request by its reply
 abbrev pub reply_bytes : (Request → Reply) → Request → Bool → List ℕ

@@ -4,6 +4,9 @@ ghost use Rattle.http_front.specs.Front as spec;
 ghost use Rattle.http_front.specs.Head.{is_line_feed, lines_in};
 ghost use Rattle.http_front.specs.Checks.{has_too_many_lines};
 
+/// The most bytes of a head block.
+pub(crate) const HEAD_LIMIT: usize = 16384;
+
 /// The most field lines of a head.
 pub(crate) const FIELD_LIMIT: usize = 100;
 
@@ -54,8 +57,8 @@ pub(crate) fn block_len(bytes: &[u8]) -> Option<usize>
     None
 }
 
-// how many bytes stand before the first LF, if there is one
-fn line_len(bytes: &[u8]) -> Option<usize>
+/// How many bytes stand before the first LF, if there is one.
+pub(crate) fn line_len(bytes: &[u8]) -> Option<usize>
     ensures within { IfSome result (λ n. n < length bytes.now) }
     ensures first { IfSome result (λ n. lines_in bytes.now ≡ take n bytes.now ∷ lines_in (drop (n + 1) bytes.now)) }
     ensures none { IfNone result (lines_in bytes.now ≡ []) }

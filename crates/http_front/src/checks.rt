@@ -1,114 +1,101 @@
-//! The checks of a head, in their order (RFC 9112, section 3; RFC 9110, section 15.5).
+//! The checks of a head, in their order (RFC 9112, sections 3 and 6; RFC 9110, section 15.5).
 ghost use Rattle.std.specs.Prelude.{◌≡◌};
 ghost use Rattle.http_front.specs.Checks as spec;
 
-use crate::host::is_host;
+use crate::fields::{count_of, value_of};
+use crate::number::number_within;
+use crate::target::is_faulty_target;
 use unit_types::{Field, Request};
 
-/// The status of the first check that refuses a request.
-pub(crate) fn refusal_of(request: &Request) -> Option<u16>
-    ensures { result ≡ spec.request_refusal request.now }
+/// The status of the first check that refuses a request, given the largest content that is taken.
+pub(crate) fn refusal_of(request: &Request, max_body: u64) -> Option<u16>
+    ensures { result ≡ spec.refusal_of max_body request.now.minor request.now.target request.now.fields }
 {
-    if is_unserved(request) {
-        Some(501)
-    } else if lacks_host(request) {
+    let fields = request.fields.as_slice();
+    if is_faulty_target(request.target.as_slice()) {
         Some(400)
+    } else if lacks_host(request.minor, fields) {
+        Some(400)
+    } else if is_ambiguous(request.minor, fields) {
+        Some(400)
+    } else if has_other_coding(fields) {
+        Some(501)
+    } else if has_faulty_length(fields) {
+        Some(400)
+    } else if is_too_long(fields, max_body) {
+        Some(413)
     } else {
         None
     }
 }
 
-fn lacks_host(request: &Request) -> bool
-    ensures { result ≡ spec.lacks_host_at request.now.minor request.now.fields }
+fn lacks_host(minor: u8, fields: &[Field]) -> bool
+    ensures { result ≡ spec.lacks_host minor fields.now }
 {
-    let hosts = count_hosts(request.fields.as_slice());
-    if request.minor == 1 {
-        hosts != 1
-    } else {
-        hosts > 1
-    }
+    let hosts = count_of(fields, b"host");
+    if minor == 1 { hosts != 1 } else { hosts > 1 }
 }
 
-fn count_hosts(fields: &[Field]) -> usize
-    ensures { result ≡ spec.host_count fields.now }
+fn is_ambiguous(minor: u8, fields: &[Field]) -> bool
+    ensures { result ≡ spec.is_ambiguous minor fields.now }
 {
-    fields.iter().filter(|field| is_host(field)).count()
+    has_coding(fields) && (has_length(fields) || minor == 0)
 }
 
-fn is_unserved(request: &Request) -> bool
-    ensures { result ≡ spec.is_unserved_at request.now.method request.now.minor request.now.fields request.now.path request.now.query }
+fn has_length(fields: &[Field]) -> bool
+    ensures { result ≡ spec.has_length fields.now }
 {
-    request.method.as_slice() != b"GET".as_slice()
-        || request.minor != 1
-        || has_unserved_field(request.fields.as_slice())
-        || !is_plain_path(request.path.as_slice())
-        || !is_plain_query(request.query.as_slice())
+    count_of(fields, b"content-length") > 0
 }
 
-fn has_unserved_field(fields: &[Field]) -> bool
-    ensures { result ≡ spec.has_unserved_field fields.now }
+fn has_coding(fields: &[Field]) -> bool
+    ensures { result ≡ spec.has_coding fields.now }
 {
-    fields
-        .iter()
-        .any(|field| is_unserved_name(field.name.as_slice()))
+    count_of(fields, b"transfer-encoding") > 0
 }
 
-fn is_unserved_name(name: &[u8]) -> bool
-    ensures { result ≡ spec.is_unserved_name name.now }
+fn has_other_coding(fields: &[Field]) -> bool
+    ensures { result ≡ spec.has_other_coding fields.now }
 {
-    name == b"content-length".as_slice()
-        || name == b"transfer-encoding".as_slice()
-        || name == b"connection".as_slice()
+    has_coding(fields) && !is_chunked(fields)
 }
 
-fn is_plain_path(path: &[u8]) -> bool
-    ensures { result ≡ spec.is_plain_path path.now }
+/// Whether the content comes in chunks.
+pub(crate) fn is_chunked(fields: &[Field]) -> bool
+    ensures { result ≡ spec.is_chunked fields.now }
 {
-    begins_with_slash(path) && has_plain_bytes(path) && !has_double_slash(path)
+    count_of(fields, b"transfer-encoding") == 1
+        && value_of(fields, b"transfer-encoding").eq_ignore_ascii_case(b"chunked")
 }
 
-fn has_plain_bytes(path: &[u8]) -> bool
-    ensures { result ≡ spec.has_plain_bytes path.now }
+fn has_faulty_length(fields: &[Field]) -> bool
+    ensures { result ≡ spec.has_faulty_length fields.now }
 {
-    path.iter().all(|b| is_plain_byte(*b))
+    has_length(fields)
+        && !(count_of(fields, b"content-length") == 1 && is_length_text(length_text(fields)))
 }
 
-fn is_plain_byte(b: u8) -> bool
-    ensures { result ≡ spec.is_plain_byte b }
+fn is_length_text(text: &[u8]) -> bool
+    ensures { result ≡ spec.is_length_text text.now }
 {
-    b.is_ascii_alphanumeric() || b == b'-' || b == b'_' || b == b'/'
+    !text.is_empty() && text.len() < 20 && has_digits(text)
 }
 
-fn has_double_slash(path: &[u8]) -> bool
-    ensures { result ≡ spec.has_double_slash path.now }
+fn has_digits(text: &[u8]) -> bool
+    ensures { result ≡ spec.has_digits text.now }
 {
-    let mut rest = path;
-    while let [first, tail @ ..] = rest {
-        if *first == b'/' && begins_with_slash(tail) {
-            return true;
-        }
-        rest = tail;
-    }
-    false
+    text.iter().all(|b| b.is_ascii_digit())
 }
 
-fn begins_with_slash(text: &[u8]) -> bool
-    ensures { result ≡ spec.begins_with_slash text.now }
+/// The value of Content-Length, or nothing.
+pub(crate) fn length_text(fields: &[Field]) -> &[u8]
+    ensures { result.now ≡ spec.length_text fields.now }
 {
-    match text {
-        [first, ..] => *first == b'/',
-        [] => false,
-    }
+    value_of(fields, b"content-length")
 }
 
-fn is_plain_query(query: &[u8]) -> bool
-    ensures { result ≡ spec.is_plain_query query.now }
+fn is_too_long(fields: &[Field], max_body: u64) -> bool
+    ensures { result ≡ spec.is_too_long max_body fields.now }
 {
-    query.iter().all(|b| is_query_byte(*b))
-}
-
-fn is_query_byte(b: u8) -> bool
-    ensures { result ≡ spec.is_query_byte b }
-{
-    b > b' ' && b < 0x7f && b != b'#'
+    number_within(length_text(fields), max_body).is_none()
 }

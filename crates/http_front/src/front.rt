@@ -1,37 +1,45 @@
 //! What stands at the front of the bytes of a connection (RFC 9112, sections 2, 3 and 6).
-ghost use Rattle.std.specs.Prelude.{◌≡◌, ◌+◌, ◌^◌, ◌<◌, ◌≤◌, ◌&&◌, length, take, IfOk, IfSome};
-ghost use Rattle.http_front.specs.Front.{blank_len, block_len, front_found, is_ready};
+ghost use Rattle.std.specs.Prelude.{◌≡◌, ◌+◌, ◌^◌, ◌<◌, ◌≤◌, length, None, true, IfOk};
+ghost use Rattle.http_front.specs.Front.{blank_len, front_found, head_begun, is_ready};
 ghost use Rattle.http_front.specs.Head.{head_of};
 ghost use Rattle.http_front.specs.Checks as checks;
 ghost use Rattle.http_front.specs.NextUnit as spec;
-ghost use Rattle.http_front.specs.Reading.{answer_at, told_of, idle_told, checked_told};
+ghost use Rattle.http_front.specs.Content.{content_of};
+ghost use Rattle.http_front.specs.Reading.{told_of, told_request, refused};
 ghost use Rattle.unit_types.specs.declared.message.Addr.{Addr};
 
-use crate::block::{FIELD_LIMIT, blank_len, block_len, has_too_many_lines};
+use crate::block::{FIELD_LIMIT, HEAD_LIMIT, blank_len, block_len, has_too_many_lines};
 use crate::checks::refusal_of;
+use crate::content::{Content, content_of, is_continue_due};
 use crate::head::whole_head;
 use crate::reader::Next;
 use crate::request::request_of;
+use crate::text::{behind, first_bytes};
 use httparse::spans::EMPTY_HEADER_SPAN;
 use std::alloc::{AllocError, Global};
 use unit_types::{Addr, Request};
 
-/// The most bytes of a head block.
-const HEAD_LIMIT: usize = 16384;
-
-/// An answer, and how many bytes it uses up.
+/// An answer, how many bytes it uses up, and whether `100 Continue` is due before it.
 #[derive(Debug, Drop)]
 pub(crate) struct Told {
     pub(crate) answer: Next,
     pub(crate) used: usize,
+    pub(crate) is_due: bool,
+    /// Whether the head was complete.
+    pub(crate) is_begun: bool,
 }
 
 impl Told {
-    // an answer that leaves the bytes
-    fn idle(answer: Next) -> Told
-        ensures { result ≡ idle_told answer }
+    // a head that is refused
+    fn refused(status: u16) -> Told
+        ensures { result ≡ refused status }
     {
-        Told { answer, used: 0 }
+        Told {
+            answer: Next::Bad(status),
+            used: 0,
+            is_due: false,
+            is_begun: true,
+        }
     }
 }
 
@@ -42,109 +50,105 @@ pub(crate) fn read_front(
     to: Addr,
     bytes: &[u8],
     ended: bool,
-    is_later: bool,
     max_body: u64,
 ) -> Result<Told, AllocError>
-    ensures { IfOk result (λ told. told ≡ told_of from to (spec.connection_unit is_later bytes.now ended max_body).found) }
+    ensures { IfOk result (λ told. told ≡ told_of from to (head_begun bytes.now) (spec.next_unit bytes.now ended max_body)) }
 {
     let blank = blank_len(bytes);
-    let rest = &bytes[blank..];
-    let block = block_len(window_of(rest));
-    if is_unserved(is_later, block, rest) {
-        return Ok(Told::idle(Next::Bad(501)));
-    }
-    read_rest(alloc, from, to, blank, rest, block, ended, max_body)
-}
-
-// the bytes in which a head block has to end
-fn window_of(rest: &[u8]) -> &[u8]
-    ensures { result.now ≡ take 16384 rest.now }
-{
-    if rest.len() <= HEAD_LIMIT {
-        rest
-    } else {
-        &rest[..HEAD_LIMIT]
-    }
-}
-
-// whether a later request has begun to be answered
-fn is_unserved(is_later: bool, block: Option<usize>, rest: &[u8]) -> bool
-    ensures { result ≡ (is_later && is_ready (front_found 16384 rest.now block)) }
-{
-    is_later && (block.is_some() || HEAD_LIMIT <= rest.len())
-}
-
-// what stands at the front of bytes that begin with no empty line, behind `blank` bytes of empty lines
-fn read_rest(
-    alloc: Global,
-    from: Addr,
-    to: Addr,
-    blank: usize,
-    rest: &[u8],
-    block: Option<usize>,
-    ended: bool,
-    max_body: u64,
-) -> Result<Told, AllocError>
-    requires no_empty_line { blank_len rest.now ≡ 0 }
-    requires block { block ≡ block_len (take 16384 rest.now) }
-    requires within { IfSome block (λ n. n ≤ length (take 16384 rest.now)) }
-    requires fits { blank + length rest.now < 2 ^ 64 }
-    ensures { IfOk result (λ told. told ≡ told_of from to (spec.front_unit max_body blank rest.now ended (front_found 16384 rest.now block)).found) }
-{
-    match block {
-        Some(size) => read_block(alloc, from, to, &rest[..size], blank + size, max_body),
-        None => Ok(Told::idle(without_block(rest, ended))),
+    let rest = behind(bytes, blank);
+    match block_len(first_bytes(rest, HEAD_LIMIT)) {
+        Some(size) => read_block(
+            alloc,
+            from,
+            to,
+            first_bytes(rest, size),
+            blank + size,
+            behind(rest, size),
+            ended,
+            max_body,
+        ),
+        None => Ok(without_block(rest, ended)),
     }
 }
 
 // without a whole block within the limit
-fn without_block(rest: &[u8], ended: bool) -> Next
-    ensures { (from to : Addr) → result ≡ answer_at from to (spec.without_block 16384 rest.now ended) }
+fn without_block(rest: &[u8], ended: bool) -> Told
+    ensures { (from to : Addr) → result ≡ told_of from to (is_ready (front_found 16384 rest.now None)) (spec.without_block 16384 rest.now ended) }
 {
     if HEAD_LIMIT <= rest.len() {
-        Next::Bad(431)
-    } else if !ended {
+        return Told::refused(431);
+    }
+    let answer = if !ended {
         Next::NeedMore
     } else if rest.is_empty() {
         Next::End
     } else {
         Next::Cut
+    };
+    Told {
+        answer,
+        used: 0,
+        is_due: false,
+        is_begun: false,
     }
 }
 
-// the checks of a head block, which ends `used` bytes behind the front
+// the checks of a head block, which ends `used` bytes behind the front, and what stands behind it
 fn read_block(
     alloc: Global,
     from: Addr,
     to: Addr,
     block: &[u8],
     used: usize,
+    rest: &[u8],
+    ended: bool,
     max_body: u64,
 ) -> Result<Told, AllocError>
     requires no_empty_line { blank_len block.now ≡ 0 }
     requires short { length block.now ≤ 16384 }
-    ensures { IfOk result (λ told. told ≡ told_of from to (spec.block_unit (checks.has_too_many_lines block.now) max_body used (head_of block.now)).found) }
+    requires fits { used + length rest.now < 2 ^ 64 }
+    ensures { IfOk result (λ told. told ≡ told_of from to true (spec.block_unit (checks.has_too_many_lines block.now) max_body used rest.now ended (head_of block.now))) }
 {
     if has_too_many_lines(block) {
-        return Ok(Told::idle(Next::Bad(431)));
+        return Ok(Told::refused(431));
     }
     let mut headers = [EMPTY_HEADER_SPAN; FIELD_LIMIT];
     let Some(spans) = whole_head(block, &mut headers) else {
-        return Ok(Told::idle(Next::Bad(400)));
+        return Ok(Told::refused(400));
     };
     let request = request_of(alloc, from, to, block, &spans, &headers)?;
-    Ok(checked(request, used))
+    match refusal_of(&request, max_body) {
+        Some(status) => Ok(Told::refused(status)),
+        None => read_content(alloc, request, used, rest, ended, max_body),
+    }
 }
 
-// a request that the checks let through, or the status that refuses it
-fn checked(request: Request, used: usize) -> Told
-    ensures { result ≡ checked_told (checks.request_refusal request) request used }
+// a request that the checks let through, with the content that follows its head
+fn read_content(
+    alloc: Global,
+    request: Request,
+    used: usize,
+    rest: &[u8],
+    ended: bool,
+    max_body: u64,
+) -> Result<Told, AllocError>
+    requires fits { used + length rest.now < 2 ^ 64 }
+    ensures { IfOk result (λ told. told ≡ told_request request used ended (content_of max_body request.fields rest.now)) }
 {
-    match refusal_of(&request) {
-        Some(status) => Told::idle(Next::Bad(status)),
-        None => Told {
-            answer: Next::Request(request),
-            used,
-        },
+    let is_due = is_continue_due(&request);
+    let mut told = Told {
+        answer: if ended { Next::Cut } else { Next::NeedMore },
+        used: 0,
+        is_due,
+        is_begun: true,
+    };
+    match content_of(alloc, max_body, request.fields.as_slice(), rest)? {
+        Content::Whole(body, len) => {
+            told.answer = Next::Request(Request { body, ..request });
+            told.used = used + len;
+        }
+        Content::Refused(status) => told.answer = Next::Bad(status),
+        Content::Open => {}
     }
+    Ok(told)
 }

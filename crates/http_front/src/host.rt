@@ -1,34 +1,29 @@
 //! The host that a request is for (RFC 9110, section 7.2).
 ghost use Rattle.std.specs.Prelude.{◌≡◌, IfOk};
+ghost use Rattle.http_front.specs.Text.{lowercase};
 ghost use Rattle.http_front.specs.Message as spec;
 
+use crate::fields::value_of;
+use crate::target::{authority_of, has_scheme};
 use std::alloc::{AllocError, Global};
 use unit_types::{Bytes, Field};
 
-/// The host of a request with these fields.
-pub(crate) fn host_of(alloc: Global, fields: &[Field]) -> Result<Bytes, AllocError>
-    ensures { IfOk result (λ host. host ≡ spec.host_of fields.now) }
+/// The host of a request with this target and these fields.
+pub(crate) fn host_of(alloc: Global, target: &[u8], fields: &[Field]) -> Result<Bytes, AllocError>
+    ensures { IfOk result (λ host. host ≡ spec.host_of target.now fields.now) }
 {
-    lowercase(alloc, without_period(without_port(host_value(fields))))
+    lowercase(alloc, without_period(without_port(host_in(target, fields))))
 }
 
-// the value of the first Host field, or nothing
-fn host_value(fields: &[Field]) -> &[u8]
-    ensures { result.now ≡ spec.host_value fields.now }
+// the authority of a target in absolute-form, or else the value of the first Host field
+fn host_in<'a>(target: &'a [u8], fields: &'a [Field]) -> &'a [u8]
+    ensures { result.now ≡ spec.host_in target.now fields.now }
 {
-    for field in fields {
-        if is_host(field) {
-            return field.value.as_slice();
-        }
+    if has_scheme(target) {
+        authority_of(target)
+    } else {
+        value_of(fields, b"host")
     }
-    b"".as_slice()
-}
-
-/// Whether the field is a Host field.
-pub(crate) fn is_host(field: &Field) -> bool
-    ensures { result ≡ spec.is_host field.now }
-{
-    field.name.as_slice() == b"host".as_slice()
 }
 
 fn without_port(text: &[u8]) -> &[u8]
@@ -81,7 +76,7 @@ fn without_last(text: &[u8]) -> &[u8]
 }
 
 fn lowercase(alloc: Global, text: &[u8]) -> Result<Bytes, AllocError>
-    ensures { IfOk result (λ lower. lower ≡ spec.lowercase text.now) }
+    ensures { IfOk result (λ lower. lower ≡ lowercase text.now) }
 {
     let lower = text.iter().map(|b| b.to_ascii_lowercase()).collect(alloc)?;
     Ok(Bytes::of(lower))

@@ -3,17 +3,26 @@
 
 mod block;
 mod checks;
+mod chunk;
 mod closing;
+mod content;
+mod fields;
 mod front;
 mod head;
 mod host;
 mod laws;
+mod number;
 mod reader;
 mod request;
+mod target;
+mod text;
 mod written;
 
 pub use closing::{is_head_request, is_last_request};
 pub use head::laws_of_heads;
-pub use laws::laws_of_units;
+pub use laws::{laws_of_chunk_lines, laws_of_units};
 pub use reader::{Next, Reader};
-pub use written::{error_reply, write_http};
+pub use written::{continue_reply, error_reply, write_http};
+
+#[cfg(test)]
+mod tests;

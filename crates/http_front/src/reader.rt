@@ -1,8 +1,9 @@
 //! The requests of a connection, read from its bytes in any pieces.
-ghost use Rattle.std.specs.Prelude.{◌≡◌, ◌++◌, [], true, false, IfOk, OnOk, OnErr};
-ghost use Rattle.http_front.specs.Reading.{Reading, is_request, next_answer, next_reading};
+ghost use Rattle.std.specs.Prelude.{◌≡◌, ◌++◌, ◌&&◌, not, [], true, false, IfOk, OnOk, OnErr};
+ghost use Rattle.http_front.specs.Reading.{Reading, reading_of, limit_or, kept_limit, is_request, next_answer, next_reading};
 
 use crate::front::read_front;
+use crate::text::behind;
 use std::alloc::{AllocError, Global};
 use std::marker::Model;
 use unit_types::{Addr, Bytes, Request};
@@ -26,7 +27,8 @@ pub enum Next {
 
 /// Reads the requests of a connection from its bytes, in whatever pieces they come.
 ///
-/// Contracts see a `Reading`: the bytes that no request has used yet, and whether the input ended behind them.
+/// Contracts see a `Reading`: the bytes that no request has used yet, whether the input ended behind them, and what is kept
+/// of the request at their front.
 #[derive(Debug, Drop)]
 pub struct Reader {
     from: Addr,
@@ -35,7 +37,9 @@ pub struct Reader {
     // how many bytes of `bytes` the requests so far have used
     used: usize,
     ended: bool,
-    is_later: bool,
+    // of the request at the front: the limit of its content once its head is complete, and whether `Continue` was given
+    limit: Option<u64>,
+    is_told: bool,
 }
 
 impl Model for Reader {
@@ -44,7 +48,7 @@ impl Model for Reader {
 
     ghost Value = { Reading };
 
-    ghost view = { λ r. record { from = r.from; to = r.to; unread = drop r.used r.bytes.items; ended = r.ended; is_later = r.is_later } };
+    ghost view = { λ r. record { from = r.from; to = r.to; unread = drop r.used r.bytes.items; ended = r.ended; limit = r.limit; is_told = r.is_told } };
 
     ghost invariant = { λ r. r.used ≤ length r.bytes.items };
 }
@@ -54,14 +58,14 @@ impl Reader {
     ///
     /// Fails for want of memory alone.
     pub fn open(alloc: Global, from: Addr, to: Addr) -> Result<Reader, AllocError>
-        ensures { IfOk result (λ r. r ≡ record { from = from; to = to; unread = []; ended = false; is_later = false }) }
+        ensures { IfOk result (λ r. r ≡ reading_of from to [] false) }
     {
         Ok(Reader::over(Bytes::of(Vec::new(alloc)), from, to))
     }
 
     /// A reader whose first bytes are `bytes`, which it doesn't copy.
     pub fn over(bytes: Bytes, from: Addr, to: Addr) -> Reader
-        ensures { result ≡ record { from = from; to = to; unread = bytes; ended = false; is_later = false } }
+        ensures { result ≡ reading_of from to bytes false }
     {
         Reader {
             from,
@@ -69,7 +73,8 @@ impl Reader {
             bytes: bytes.into_vec(),
             used: 0,
             ended: false,
-            is_later: false,
+            limit: None,
+            is_told: false,
         }
     }
 
@@ -105,29 +110,59 @@ impl Reader {
 
     /// What stands at the front of the bytes that no request has used, given the largest content that is taken.
     ///
-    /// A request that is answered is used up. After `Bad`, `End` and `Cut` the reader is as before, so the answer comes
-    /// again. Fails for want of memory alone; the reader is then as before.
+    /// `Continue` comes once for a request, where it is due. A request that is answered is used up. After `Bad`, `End` and
+    /// `Cut` the answer comes again. The largest content is the one given to the call that finds the head complete; later
+    /// calls leave it. Fails for want of memory alone; the reader is then as before.
     pub fn next(&mut self, alloc: Global, max_body: u64) -> Result<Next, AllocError>
         ensures answer { IfOk result (λ answer. answer ≡ next_answer self.old max_body) }
         ensures ok { OnOk result (self.new ≡ next_reading self.old max_body) }
         ensures err { OnErr result (self.new ≡ self.old) }
     {
-        let unread = &self.bytes[self.used..];
-        let told = read_front(
-            alloc,
-            self.from,
-            self.to,
-            unread,
-            self.ended,
-            self.is_later,
-            max_body,
-        )?;
+        let limit = limit_or(self.limit, max_body);
+        let unread = behind(&self.bytes, self.used);
+        let told = read_front(alloc, self.from, self.to, unread, self.ended, limit)?;
+        if asks_now(told.is_due, self.is_told) {
+            self.limit = kept_limit(told.is_begun, self.limit, max_body);
+            self.is_told = true;
+            return Ok(Next::Continue);
+        }
         if is_request(&told.answer) {
             self.used += told.used;
-            self.is_later = true;
+            self.limit = None;
+            self.is_told = false;
+        } else {
+            self.limit = kept_limit(told.is_begun, self.limit, max_body);
         }
         Ok(told.answer)
     }
+}
+
+// the limit that counts, given that of this call
+fn limit_or(kept: Option<u64>, limit: u64) -> u64
+    ensures { result ≡ limit_or kept limit }
+{
+    match kept {
+        Some(kept) => kept,
+        None => limit,
+    }
+}
+
+// the limit that is kept for the request at the front, whose head may be complete
+fn kept_limit(is_begun: bool, kept: Option<u64>, limit: u64) -> Option<u64>
+    ensures { result ≡ kept_limit is_begun kept limit }
+{
+    if is_begun {
+        Some(limit_or(kept, limit))
+    } else {
+        kept
+    }
+}
+
+// whether `Continue` is due and was not given yet
+fn asks_now(is_due: bool, is_told: bool) -> bool
+    ensures { result ≡ (is_due && not is_told) }
+{
+    is_due && !is_told
 }
 
 fn is_request(answer: &Next) -> bool
@@ -196,7 +231,7 @@ mod tests {
             matches!(
                 last_word(
                     &rt,
-                    b"POST / HTTP/1.1\r\nHost: a\r\nContent-Length: 0\r\n\r\n"
+                    b"POST / HTTP/1.1\r\nHost: a\r\nTransfer-Encoding: gzip\r\n\r\n"
                 ),
                 Next::Bad(501)
             )

@@ -1,13 +1,16 @@
 //! A request out of its head (RFC 9110, section 7; RFC 9112, section 3).
-ghost use Rattle.std.specs.Prelude.{◌≡◌, ◌<◌, ◌≤◌, [], length, map, position, All, IfOk, IfSome};
+ghost use Rattle.std.specs.Prelude.{◌≡◌, ◌≤◌, [], length, map, All, IfOk};
 ghost use Rattle.httparse.specs.Spans.{IsRequestAt, IsRequestWithin, IsHeaderWithin};
 ghost use Rattle.http_header.specs.FieldName.{IsFieldName};
 ghost use Rattle.http_front.specs.Head.{head_in};
+ghost use Rattle.http_front.specs.Text.{lowercase};
 ghost use Rattle.http_front.specs.Message as spec;
 
 use crate::host::host_of;
+use crate::target::{query_of, raw_path_of};
 use http_header::HeaderName;
 use httparse::spans::{HeaderSpan, RequestSpans};
+use path_normal::normal_path;
 use std::alloc::{AllocError, Global};
 use unit_types::{Addr, Bytes, Field, Fields, Request};
 
@@ -30,41 +33,15 @@ pub(crate) fn request_of(
     Ok(Request {
         method: Bytes::copy_of(alloc, spans.method.of(block))?,
         target: Bytes::copy_of(alloc, target)?,
-        path: Bytes::copy_of(alloc, path_of(target))?,
+        path: normal_path(alloc, raw_path_of(target))?,
         query: Bytes::copy_of(alloc, query_of(target))?,
-        host: host_of(alloc, fields.as_slice())?,
+        host: host_of(alloc, target, fields.as_slice())?,
         minor: spans.version,
         fields,
         from,
         to,
         body: Bytes::of(Vec::new(alloc)),
     })
-}
-
-fn path_of(target: &[u8]) -> &[u8]
-    ensures { result.now ≡ spec.path_of target.now }
-{
-    match question_place(target) {
-        Some(at) => &target[..at],
-        None => target,
-    }
-}
-
-fn query_of(target: &[u8]) -> &[u8]
-    ensures { result.now ≡ spec.query_of target.now }
-{
-    match question_place(target) {
-        Some(at) => &target[at + 1..],
-        None => b"".as_slice(),
-    }
-}
-
-// where the first question mark stands
-fn question_place(target: &[u8]) -> Option<usize>
-    ensures place { result ≡ position spec.is_question target.now }
-    ensures within { IfSome result (λ at. at < length target.now) }
-{
-    target.iter().position(|b| *b == b'?')
 }
 
 fn fields_of(alloc: Global, block: &[u8], headers: &[HeaderSpan]) -> Result<Fields, AllocError>
@@ -93,7 +70,7 @@ fn field_at(alloc: Global, block: &[u8], header: HeaderSpan) -> Result<Field, Al
 // the name of a field in lower case; the only error left is want of memory
 fn lower_name(alloc: Global, name: &[u8]) -> Result<Bytes, AllocError>
     requires { IsFieldName name.now }
-    ensures { IfOk result (λ lower. lower ≡ spec.lowercase name.now) }
+    ensures { IfOk result (λ lower. lower ≡ lowercase name.now) }
 {
     match HeaderName::from_bytes(alloc, name) {
         Ok(lower) => Bytes::copy_of(alloc, lower.as_bytes()),

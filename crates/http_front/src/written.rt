@@ -1,5 +1,5 @@
 //! Replies as the bytes of HTTP/1.1 (RFC 9112, sections 4 to 6).
-ghost use Rattle.std.specs.Prelude.{◌≡◌, ◌++◌, ◌<◌, ◌||◌, flat_map, IfOk, OnOk, OnErr};
+ghost use Rattle.std.specs.Prelude.{◌≡◌, ◌++◌, ◌<◌, ◌||◌, true, flat_map, IfOk, OnOk, OnErr};
 ghost use Rattle.http_front.specs.Written as spec;
 
 use itoa::Buffer;
@@ -202,6 +202,13 @@ fn phrase_of(status: u16) -> &'static str
         504 => "Gateway Timeout",
         _ => "",
     }
+}
+
+/// The interim reply that asks for the content of a request (RFC 9110, section 15.2.1).
+pub fn continue_reply() -> &'static [u8]
+    ensures { result.now ≡ spec.continue_bytes true }
+{
+    b"HTTP/1.1 100 Continue\r\n\r\n"
 }
 
 /// The error reply of a status: its number in words of plain text.

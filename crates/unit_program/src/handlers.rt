@@ -1,11 +1,16 @@
 //! The handlers of the program.
-ghost use Rattle.std.specs.Prelude.{◌≡◌, ◌∷◌, [], codes, IfOk};
-ghost use Rattle.unit_program.specs.Replies.{hello_reply, unknown_reply, names_known};
+ghost use Rattle.std.specs.Prelude.{◌≡◌, [], IfOk};
+ghost use Rattle.unit_program.specs.Replies.{content_reply, hello_reply, within_limit, count_reply, echo_reply, names_known};
 
+use itoa::Buffer;
 use std::alloc::{AllocError, Global};
 use unit_types::{Bytes, Field, Fields, Handlers, Reply, Request};
 
-/// The handlers that the program brings along: `hello`, which greets.
+/// The largest content of a request in any configuration, in bytes.
+const CONTENT_LIMIT: usize = 10_000_000;
+
+/// The handlers that the program brings along: `count`, which writes how many bytes the content has; `echo`, which gives it
+/// back; and `hello`, which greets.
 #[derive(Drop)]
 pub struct ProgramHandlers {
     names: Vec<Bytes>,
@@ -18,43 +23,77 @@ impl ProgramHandlers {
     /// Fails for want of memory alone.
     pub fn open(alloc: Global) -> Result<ProgramHandlers, AllocError> {
         let mut names = Vec::new(alloc);
+        names.push(Bytes::copy_of(alloc, b"count")?)?;
+        names.push(Bytes::copy_of(alloc, b"echo")?)?;
         names.push(Bytes::copy_of(alloc, b"hello")?)?;
         Ok(ProgramHandlers { names })
     }
+}
+
+// A reply with that content, of that type.
+fn content_reply(alloc: Global, media_type: &[u8], body: Bytes) -> Result<Reply, AllocError>
+    ensures { IfOk result (λ reply. reply ≡ content_reply media_type.now body) }
+{
+    let mut fields = Vec::new(alloc);
+    fields.push(Field {
+        name: Bytes::copy_of(alloc, b"Content-Type")?,
+        value: Bytes::copy_of(alloc, media_type)?,
+    })?;
+    Ok(Reply {
+        status: 200,
+        fields: Fields::of(fields),
+        body,
+    })
 }
 
 // The reply of `hello`.
 fn hello(alloc: Global) -> Result<Reply, AllocError>
     ensures { IfOk result (λ reply. reply ≡ hello_reply) }
 {
-    let mut fields = Vec::new(alloc);
-    fields.push(Field {
-        name: Bytes::copy_of(alloc, b"Content-Type")?,
-        value: Bytes::copy_of(alloc, b"text/plain")?,
-    })?;
-    Ok(Reply {
-        status: 200,
-        fields: Fields::of(fields),
-        body: Bytes::copy_of(alloc, b"Hello, world!\n")?,
-    })
+    let body = Bytes::copy_of(alloc, b"Hello, world!\n")?;
+    content_reply(alloc, b"text/plain", body)
 }
 
-// The reply of every other name.
-fn unknown(alloc: Global) -> Reply
-    ensures { result ≡ unknown_reply }
+// The reply of `count` to a content.
+fn count(alloc: Global, content: &[u8]) -> Result<Reply, AllocError>
+    ensures { IfOk result (λ reply. reply ≡ within_limit content.now (count_reply content.now)) }
+{
+    if content.len() > CONTENT_LIMIT {
+        return Ok(bare_reply(alloc, 413));
+    }
+    let mut digits = Buffer::new();
+    let mut body = Bytes::copy_of(alloc, digits.format(content.len()).as_bytes())?;
+    body.append(b"\n")?;
+    content_reply(alloc, b"text/plain", body)
+}
+
+// The reply of `echo` to a content.
+fn echo(alloc: Global, content: &[u8]) -> Result<Reply, AllocError>
+    ensures { IfOk result (λ reply. reply ≡ within_limit content.now (echo_reply content.now)) }
+{
+    if content.len() > CONTENT_LIMIT {
+        return Ok(bare_reply(alloc, 413));
+    }
+    let body = Bytes::copy_of(alloc, content)?;
+    content_reply(alloc, b"application/octet-stream", body)
+}
+
+// A reply of that status without fields and content.
+fn bare_reply(alloc: Global, status: u16) -> Reply
+    ensures { result ≡ record { status = status; fields = []; body = [] } }
 {
     Reply {
-        status: 404,
+        status,
         fields: Fields::of(Vec::new(alloc)),
         body: Bytes::of(Vec::new(alloc)),
     }
 }
 
 impl Handlers for ProgramHandlers {
-    ghost use Rattle.std.specs.Prelude.{if◌then◌else◌, bytes_eq};
+    ghost use Rattle.unit_program.specs.Replies.{program_reply};
     ghost use Rattle.unit_program.specs.Laws.{names_fit, replies_fit};
 
-    ghost reply_of = { λ name request. if bytes_eq name (codes "hello") then hello_reply else unknown_reply };
+    ghost reply_of = { program_reply };
 
     ghost listed = { λ _. names_known };
 
@@ -66,10 +105,15 @@ impl Handlers for ProgramHandlers {
         self.names.as_slice()
     }
 
-    fn reply(&self, alloc: Global, name: &[u8], _request: &Request) -> Result<Reply, AllocError> {
-        if name == b"hello".as_slice() {
-            return hello(alloc);
+    fn reply(&self, alloc: Global, name: &[u8], request: &Request) -> Result<Reply, AllocError> {
+        if name == b"count".as_slice() {
+            count(alloc, request.body.as_slice())
+        } else if name == b"echo".as_slice() {
+            echo(alloc, request.body.as_slice())
+        } else if name == b"hello".as_slice() {
+            hello(alloc)
+        } else {
+            Ok(bare_reply(alloc, 404))
         }
-        Ok(unknown(alloc))
     }
 }

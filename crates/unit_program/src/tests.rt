@@ -76,6 +76,17 @@ fn once(rt: &HostRuntime, input: &[u8]) -> Result<Outcome, AllocError> {
     run(rt, &["once", "hello"], input, NO_FAULTS)
 }
 
+// Whether `once HANDLER` writes those bytes for that input.
+fn answers(
+    rt: &HostRuntime,
+    handler: &str,
+    input: &[u8],
+    wanted: &[u8],
+) -> Result<bool, AllocError> {
+    let outcome = run(rt, &["once", handler], input, NO_FAULTS)?;
+    Ok(outcome.is(0, wanted, b""))
+}
+
 #[test]
 fn one_get(rt: HostRuntime) {
     let outcome = once(&rt, GET).expect(&rt, "memory");
@@ -100,12 +111,45 @@ fn no_host(rt: HostRuntime) {
 }
 
 #[test]
-fn post_is_not_served(rt: HostRuntime) {
-    let input = b"POST / HTTP/1.1\r\nHost: a\r\nContent-Length: 0\r\n\r\n";
-    let wanted =
-        b"HTTP/1.1 501 Not Implemented\r\nContent-Type: text/plain\r\nContent-Length: 12\r\nConnection: close\r\n\r\nError 501.\r\n";
+fn pipelined_pair(rt: HostRuntime) {
+    let input = b"GET / HTTP/1.1\r\nHost: a\r\n\r\nGET / HTTP/1.1\r\nHost: a\r\n\r\n";
     let outcome = once(&rt, input).expect(&rt, "memory");
-    assert!(rt; outcome.is(0, wanted, b""));
+    assert!(rt; outcome.status == 0);
+    assert!(rt; outcome.out.as_slice().len() == 158);
+    assert!(rt; outcome.out.as_slice().starts_with(GREETED));
+    assert!(rt; outcome.out.as_slice().ends_with(GREETED));
+}
+
+#[test]
+fn chunked_content_with_a_trailer(rt: HostRuntime) {
+    let input =
+        b"POST / HTTP/1.1\r\nHost: a\r\nExpect: 100-continue\r\nTransfer-Encoding: chunked\r\n\r\n5\r\nhello\r\n0\r\nX: y\r\n\r\n";
+    let wanted =
+        b"HTTP/1.1 100 Continue\r\n\r\nHTTP/1.1 200 OK\r\nContent-Type: application/octet-stream\r\nContent-Length: 5\r\n\r\nhello";
+    assert!(rt; answers(&rt, "echo", input, wanted).expect(&rt, "memory"));
+}
+
+#[test]
+fn counts_a_content(rt: HostRuntime) {
+    let input = b"POST / HTTP/1.1\r\nHost: a\r\nContent-Length: 12\r\n\r\nHello, world";
+    let wanted = b"HTTP/1.1 200 OK\r\nContent-Type: text/plain\r\nContent-Length: 3\r\n\r\n12\n";
+    assert!(rt; answers(&rt, "count", input, wanted).expect(&rt, "memory"));
+}
+
+#[test]
+fn too_long_content(rt: HostRuntime) {
+    let input = b"POST / HTTP/1.1\r\nHost: a\r\nContent-Length: 8388609\r\n\r\n";
+    let wanted =
+        b"HTTP/1.1 413 Content Too Large\r\nContent-Type: text/plain\r\nContent-Length: 12\r\nConnection: close\r\n\r\nError 413.\r\n";
+    assert!(rt; answers(&rt, "count", input, wanted).expect(&rt, "memory"));
+}
+
+#[test]
+fn closes_after_http_1_0(rt: HostRuntime) {
+    let input = b"GET / HTTP/1.0\r\n\r\nGET / HTTP/1.1\r\nHost: a\r\n\r\n";
+    let wanted =
+        b"HTTP/1.1 200 OK\r\nContent-Type: text/plain\r\nContent-Length: 14\r\nConnection: close\r\n\r\nHello, world!\n";
+    assert!(rt; answers(&rt, "hello", input, wanted).expect(&rt, "memory"));
 }
 
 #[test]

@@ -4,7 +4,9 @@ ghost use Rattle.http_front.specs.Message as spec;
 ghost use Rattle.http_front.specs.Session.{once_of};
 ghost use Rattle.http_front.specs.Written.{error_bytes};
 
-use http_front::{Next, Reader, error_reply, is_head_request, is_last_request, write_http};
+use http_front::{
+    Next, Reader, continue_reply, error_reply, is_head_request, is_last_request, write_http,
+};
 use std::alloc::{AllocError, Global};
 use unit_types::{Addr, Bytes, Handlers, Request};
 
@@ -57,9 +59,10 @@ pub fn once<H: Handlers>(
     let mut out = Bytes::of(Vec::new(alloc));
     let mut left = REQUEST_LIMIT;
     while left > 0 {
-        left -= 1;
         match reader.next(alloc, CONTENT_LIMIT)? {
+            Next::Continue => out.append(continue_reply())?,
             Next::Request(request) => {
+                left -= 1;
                 let close = closes(&request, left);
                 let reply = handlers.reply(alloc, name, &request)?;
                 write_http(alloc, &reply, is_head_request(&request), close, &mut out)?;
@@ -72,7 +75,7 @@ pub fn once<H: Handlers>(
                 return Ok(out);
             }
             Next::End | Next::Cut => return Ok(out),
-            Next::Continue | Next::NeedMore => unreachable!(),
+            Next::NeedMore => unreachable!(),
         }
     }
     Ok(out)

@@ -1,29 +1,52 @@
-use Rattle.std.proofs.Common.{◌≡◌, ◌∙◌, ap, sym, subst, drop, IfOk}
-use Rattle.std.proofs.lemmas.List.{take_rest}
-use Rattle.http_front.specs.Front.{blank_len, block_len}
-use Rattle.http_front.specs.NextUnit.{NextUnit}
+use Rattle.std.proofs.Common.{◌≡◌, ◌∙◌, ◌+◌, ap, sym, subst, drop, take, true, IfOk, arith, length-take, length-drop}
+use Rattle.http_front.specs.declared.front.Told.{Told}
+use Rattle.http_front.specs.Front.{blank_len}
+use Rattle.http_front.specs.Head.{head_of}
+use Rattle.http_front.specs.Checks.{has_too_many_lines}
+use Rattle.http_front.specs.NextUnit.{block_unit}
 use Rattle.http_front.specs.Reading.{told_of}
-use Rattle.http_front.proofs.BlockLemmas.{blank_dropped}
-use Rattle.http_front.proofs.FrontLemmas.{connection_begun, connection_other}
+use Rattle.http_front.proofs.BlockLemmas.{blank_dropped, blank_taken}
+use Rattle.http_front.proofs.FrontLemmas.{next_block, next_unready}
 use Rattle.http_front.proofs.front.read_front.Goals as goal
 
-pub returns-then-is_unserved : goal.returns-then-is_unserved
-returns-then-is_unserved c =
-    let rest = take_rest c.args.bytes.now c.blank_len-blank.result ∙ ap (λ n. drop n c.args.bytes.now) c.blank_len-blank.ensures.value in
-    let found = c.block_len-block.ensures.value ∙ ap block_len c.window_of.ensures in
-    c.idle.ensures ∙ sym (ap (λ u. told_of c.args.from c.args.to u.found)
-    (connection_begun c.args.is_later c.args.bytes.now c.args.ended c.args.max_body _ _ rest found (sym c.is_unserved.ensures ∙ c.if-is_unserved.true)))
+pub overflow_add-blank : goal.overflow_add-blank
+overflow_add-blank c =
+    let within = rw (c.first_bytes.ensures, c.behind-rest.ensures) at c.in-Some.ensures.fits in
+    omega (arith, within, c.blank_len-blank.ensures.fits, length-take 16384 (drop c.blank_len-blank.result c.args.bytes.now), length-drop c.blank_len-blank.result c.args.bytes.now)
 
-pub read_rest-requires-clause-no_empty_line : goal.read_rest-requires-clause-no_empty_line
+pub read_block-requires-clause-no_empty_line : goal.read_block-requires-clause-no_empty_line
 unfolding blank_len
-read_rest-requires-clause-no_empty_line c =
-    let rest = take_rest c.args.bytes.now c.blank_len-blank.result ∙ ap (λ n. drop n c.args.bytes.now) c.blank_len-blank.ensures.value in
-    ap blank_len rest ∙ blank_dropped c.args.bytes.now
+read_block-requires-clause-no_empty_line c =
+    let rest = c.behind-rest.ensures ∙ ap (λ n. drop n c.args.bytes.now) c.blank_len-blank.ensures.value in
+    ap blank_len (c.first_bytes-in-Some.ensures ∙ ap (take c.in-Some.size) rest) ∙ blank_taken c.in-Some.size (drop (blank_len c.args.bytes.now) c.args.bytes.now) (blank_dropped c.args.bytes.now)
 
-pub returns : goal.returns
-returns c =
-    let rest = take_rest c.args.bytes.now c.blank_len-blank.result ∙ ap (λ n. drop n c.args.bytes.now) c.blank_len-blank.ensures.value in
-    let found = c.block_len-block.ensures.value ∙ ap block_len c.window_of.ensures in
-    let same = connection_other c.args.is_later c.args.bytes.now c.args.ended c.args.max_body _ _ c.blank_len-blank.result
-    c.blank_len-blank.ensures.value rest found (sym c.is_unserved.ensures ∙ c.if-is_unserved.false) in
-    subst (λ (u : NextUnit). IfOk c.read_rest.result (λ told. told ≡ told_of c.args.from c.args.to u.found)) same c.read_rest.ensures
+pub read_block-requires-clause-short : goal.read_block-requires-clause-short
+read_block-requires-clause-short c =
+    let within = rw c.first_bytes.ensures at c.in-Some.ensures.fits in
+    rw c.first_bytes-in-Some.ensures
+    (omega (arith, within, length-take 16384 c.behind-rest.result.now, length-take c.in-Some.size c.behind-rest.result.now))
+
+pub read_block-requires-clause-fits : goal.read_block-requires-clause-fits
+read_block-requires-clause-fits c =
+    let within = rw (c.first_bytes.ensures, c.behind-rest.ensures) at c.in-Some.ensures.fits in
+    rw (c.behind.ensures, c.behind-rest.ensures)
+    (omega (arith, within, c.blank_len-blank.ensures.fits, length-take 16384 (drop c.blank_len-blank.result c.args.bytes.now), length-drop c.blank_len-blank.result c.args.bytes.now, length-drop c.in-Some.size (drop c.blank_len-blank.result c.args.bytes.now)))
+
+pub returns-in-Some : goal.returns-in-Some
+returns-in-Some c =
+    let rest = c.behind-rest.ensures ∙ ap (λ n. drop n c.args.bytes.now) c.blank_len-blank.ensures.value in
+    let size = c.in-Some.size in
+    let used = c.blank_len-blank.result + size in
+    let block = c.first_bytes-in-Some.ensures in
+    let behind = c.behind.ensures in
+    let told = (λ i. told_of c.args.from c.args.to true (block_unit (has_too_many_lines (block i)) c.args.max_body used (behind i) c.args.ended (head_of (block i))))
+    ∙ next_block c.args.from c.args.to c.args.bytes.now c.args.ended c.args.max_body c.blank_len-blank.result size c.behind-rest.result.now c.first_bytes.result.now
+    c.blank_len-blank.ensures.value rest c.first_bytes.ensures (sym c.in-Some.is ∙ c.block_len.ensures.value) in
+    subst (λ (t : Told). IfOk c.read_block.result (λ told. told ≡ t)) told c.read_block.ensures
+
+pub returns-in-None : goal.returns-in-None
+returns-in-None c =
+    let rest = c.behind-rest.ensures ∙ ap (λ n. drop n c.args.bytes.now) c.blank_len-blank.ensures.value in
+    c.without_block.ensures c.args.from c.args.to
+    ∙ next_unready c.args.from c.args.to c.args.bytes.now c.args.ended c.args.max_body c.behind-rest.result.now c.first_bytes.result.now
+    rest c.first_bytes.ensures (sym c.in-None.is ∙ c.block_len.ensures.value)

@@ -1,7 +1,9 @@
 use Rattle.std.proofs.Common.{◌≡◌, ◌∙◌, ap, refl, arith}
 use Rattle.unit_types.specs.declared.message.Request.{Request}
 use Rattle.http_front.specs.Head.{head_in}
-use Rattle.http_front.specs.Message.{path_of, query_of, host_of}
+use Rattle.path_normal.specs.Path.{normal_path_of}
+use Rattle.http_front.specs.Target.{raw_path_of, query_of}
+use Rattle.http_front.specs.Message.{host_of}
 use Rattle.http_front.proofs.RequestLemmas.{request_fields, request_names}
 use Rattle.http_front.proofs.request.request_of.Goals as goal
 
@@ -20,9 +22,9 @@ returns c =
     same_request _ _
     (c.in_ok-copy_of.ensures ∙ c.of.ensures ∙ c.requires.at.method)
     (c.in_ok-copy_of-2.ensures ∙ target)
-    (c.in_ok-copy_of-3.ensures ∙ c.path_of.ensures ∙ ap path_of target)
-    (c.in_ok-copy_of-4.ensures ∙ c.query_of.ensures ∙ ap query_of target)
-    (c.in_ok-host_of.ensures ∙ ap host_of (c.as_slice.ensures ∙ fields))
+    (c.in_ok-normal_path.ensures ∙ ap normal_path_of (c.raw_path_of.ensures ∙ ap raw_path_of target))
+    (c.in_ok-copy_of-3.ensures ∙ c.query_of.ensures ∙ ap query_of target)
+    (c.in_ok-host_of.ensures ∙ (λ i. host_of (target i) ((c.as_slice.ensures ∙ fields) i)))
     c.requires.at.version
     fields
     refl

@@ -1,0 +1,93 @@
+-- The chunks one by one.
+use Rattle.std.proofs.Common.{ℕ, ◌≡◌, ◌+◌, ◌-◌, ◌≤◌, zero, suc, refl, sym, ap, ◌∙◌, List, [], ◌∷◌, ◌++◌, length, take, drop, arith, subst, append_assoc, append-nil, drop-drop, length-drop}
+use Rattle.http_front.specs.declared.content.Content.{Content}
+use Rattle.http_front.specs.declared.chunk.Chunk.{Chunk}
+use Rattle.http_front.specs.declared.chunk.Chunk.TheVariants.{Data, Last, Refused, Open}
+use Rattle.http_front.specs.Chunks.{line_front, first_chunk, content_behind, chunk_len, chunk_content, chunks_in, chunked_content}
+use Rattle.http_front.proofs.ContentStays.{FitsChunk, chunk_fits}
+
+pub behind_nothing : (c : Content) → c ≡ content_behind [] 0 c
+behind_nothing (Content.Whole content len) = ap (Content.Whole content) (omega arith)
+behind_nothing (Content.Refused status) = refl
+behind_nothing Content.Open = refl
+
+pub behind_both : (a b : List ℕ) (m n : ℕ) (c : Content) → content_behind a m (content_behind b n c) ≡ content_behind (a ++ b) (m + n) c
+behind_both a b m n (Content.Whole content len) =
+    let text : a ++ (b ++ content) ≡ (a ++ b) ++ content = sym (append_assoc a b content) in
+    let used : m + (n + len) ≡ m + n + len = omega arith in
+    λ i. Content.Whole (text i) (used i)
+behind_both a b m n (Content.Refused status) = refl
+behind_both a b m n Content.Open = refl
+
+-- without bytes there is no chunk
+no_chunk : (room : ℕ) → first_chunk room [] ≡ Open
+unfolding first_chunk line_front
+no_chunk room = refl
+
+-- more steps than bytes change nothing
+pub steps_enough : (f g room : ℕ) (bytes : List ℕ) → length bytes ≤ f → length bytes ≤ g → chunks_in f room bytes ≡ chunks_in g room bytes
+unfolding chunks_in
+steps_enough zero zero room bytes few more = refl
+steps_enough zero (suc g) room [] few more = rw (no_chunk room) refl
+steps_enough zero (suc g) room (x ∷ bytes) few more = absurd (omega arith)
+steps_enough (suc f) zero room [] few more = rw (no_chunk room) refl
+steps_enough (suc f) zero room (x ∷ bytes) few more = absurd (omega arith)
+steps_enough (suc f) (suc g) room bytes few more =
+    by_chunk (λ line size. steps_enough f g (room - size) (drop (chunk_len line size) bytes)
+    (omega (arith, length-drop (chunk_len line size) bytes)) (omega (arith, length-drop (chunk_len line size) bytes))) (first_chunk room bytes)
+  where
+    by_chunk : ((line size : ℕ) → chunks_in f (room - size) (drop (chunk_len line size) bytes) ≡ chunks_in g (room - size) (drop (chunk_len line size) bytes))
+        → (c : Chunk)
+        → chunk_content bytes (λ size rest. chunks_in f (room - size) rest) c ≡ chunk_content bytes (λ size rest. chunks_in g (room - size) rest) c
+    by_chunk later (Data line size) = ap (content_behind (take size (drop line bytes)) (chunk_len line size)) (later line size)
+    by_chunk later (Last n) = refl
+    by_chunk later (Refused status) = refl
+    by_chunk later Open = refl
+
+-- the chunks by the first of them
+pub chunks_step : (steps room : ℕ) (bytes : List ℕ) (c : Chunk) → length bytes ≡ steps → first_chunk room bytes ≡ c
+    → chunks_in steps room bytes ≡ chunk_content bytes (λ size rest. chunks_in (steps - 1) (room - size) rest) c
+unfolding chunks_in
+chunks_step zero room [] c few is = let none = sym is ∙ no_chunk room in rw none refl
+chunks_step zero room (x ∷ bytes) c few is = absurd (omega arith)
+chunks_step (suc steps) room bytes c few is = let less : suc steps - 1 ≡ steps = omega arith in rw (is, less) refl
+
+-- ---- the chunks of a content so far
+
+abbrev pub IsPassed : ℕ → List ℕ → List ℕ → ℕ → ℕ → Type 0
+IsPassed limit bytes body at room = chunked_content limit bytes ≡ content_behind body at (chunks_in (length bytes - at) room (drop at bytes))
+
+-- the content by the next chunk
+passed_chunk : (limit : ℕ) (bytes body : List ℕ) (at room : ℕ) (c : Chunk) → IsPassed limit bytes body at room → first_chunk room (drop at bytes) ≡ c
+    → chunked_content limit bytes ≡ content_behind body at (chunk_content (drop at bytes) (λ size rest. chunks_in (length bytes - at - 1) (room - size) rest) c)
+passed_chunk limit bytes body at room c passed is =
+    passed ∙ ap (content_behind body at) (chunks_step (length bytes - at) room (drop at bytes) c (length-drop at bytes) is)
+
+pub passed_last : (limit : ℕ) (bytes body : List ℕ) (at room n : ℕ) → IsPassed limit bytes body at room → first_chunk room (drop at bytes) ≡ Last n
+    → Content.Whole body (at + n) ≡ chunked_content limit bytes
+passed_last limit bytes body at room n passed is =
+    sym (passed_chunk limit bytes body at room (Last n) passed is ∙ ap (λ text. Content.Whole text (at + n)) (append-nil body))
+
+pub passed_refused : (limit : ℕ) (bytes body : List ℕ) (at room status : ℕ) → IsPassed limit bytes body at room → first_chunk room (drop at bytes) ≡ Refused status
+    → Content.Refused status ≡ chunked_content limit bytes
+passed_refused limit bytes body at room status passed is = sym (passed_chunk limit bytes body at room (Refused status) passed is)
+
+pub passed_open : (limit : ℕ) (bytes body : List ℕ) (at room : ℕ) → IsPassed limit bytes body at room → first_chunk room (drop at bytes) ≡ Open
+    → Content.Open ≡ chunked_content limit bytes
+passed_open limit bytes body at room passed is = sym (passed_chunk limit bytes body at room Open passed is)
+
+pub chunk_fits_as : (room : ℕ) (bytes : List ℕ) (c : Chunk) → first_chunk room bytes ≡ c → FitsChunk room (length bytes) c
+chunk_fits_as room bytes c is = subst (λ (k : Chunk). FitsChunk room (length bytes) k) is (chunk_fits room bytes)
+
+pub passed_data : (limit : ℕ) (bytes body : List ℕ) (at room line size : ℕ) → IsPassed limit bytes body at room → first_chunk room (drop at bytes) ≡ Data line size
+    → IsPassed limit bytes (body ++ take size (drop line (drop at bytes))) (at + chunk_len line size) (room - size)
+passed_data limit bytes body at room line size passed is =
+    let fits = chunk_fits_as room (drop at bytes) (Data line size) is in
+    let rest = drop (chunk_len line size) (drop at bytes) in
+    let few : length rest ≤ length bytes - at - 1 = omega (arith, length-drop (chunk_len line size) (drop at bytes), length-drop at bytes) in
+    let same : length rest ≤ length bytes - (at + chunk_len line size) = omega (arith, length-drop (chunk_len line size) (drop at bytes), length-drop at bytes) in
+    passed_chunk limit bytes body at room (Data line size) passed is
+    ∙ behind_both body (take size (drop line (drop at bytes))) at (chunk_len line size) (chunks_in (length bytes - at - 1) (room - size) rest)
+    ∙ ap (content_behind (body ++ take size (drop line (drop at bytes))) (at + chunk_len line size))
+    (steps_enough (length bytes - at - 1) (length bytes - (at + chunk_len line size)) (room - size) rest few same
+    ∙ ap (chunks_in (length bytes - (at + chunk_len line size)) (room - size)) (drop-drop (chunk_len line size) at bytes))
