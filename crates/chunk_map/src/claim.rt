@@ -43,14 +43,36 @@ fn unseen() -> [u64; 80]
     [0; 80]
 }
 
-// Notes that a chunk isn't free.
-fn clear(words: &mut [u64; 80], chunk: usize)
-    requires { chunk < 5120 }
+// Notes that a chunk of the segment isn't free.
+fn clear(words: &mut [u64; 10], chunk: usize)
+    requires { chunk < 640 }
     ensures here { is_free (slice_index words.new) chunk ≡ false }
     ensures others { (other : ℕ) → other ≢ chunk → is_free (slice_index words.new) other ≡ is_free (slice_index words.old) other }
-    ensures words { (number : ℕ) → number ≢ chunk / 64 → slice_index words.new number ≡ slice_index words.old number }
 {
     words[chunk / 64] &= !(1u64 << (chunk % 64));
+}
+
+// Notes the looks at the words of a segment.
+fn note(seen: &mut [u64; 80], segment: usize, words: &[u64; 10])
+    requires { segment < 8 }
+    ensures here { (number : ℕ) → number < 10 → slice_index seen.new (10 * segment + number) ≡ slice_index words.now number }
+    ensures others { (number : ℕ) → number / 10 ≢ segment → slice_index seen.new number ≡ slice_index seen.old number }
+{
+    for number in 0..10 {
+        seen[10 * segment + number] = words[number];
+    }
+}
+
+// The run of so many bytes from this chunk of the segment on.
+fn run_at(segment: usize, chunk: usize, size: u32) -> Run
+    requires { (segment < 8) × (chunk < 640) }
+    ensures { (result.segment ≡ segment) × (result.chunk ≡ chunk) × (result.size ≡ size) }
+{
+    Run {
+        segment: segment as u16,
+        chunk: chunk as u16,
+        size,
+    }
 }
 
 impl ChunkMap {
@@ -63,7 +85,7 @@ impl ChunkMap {
     ghost use Rattle.chunk_map.specs.Runs.{run_chunks, AreFree, NoneBelow, IsLowest};
     ghost use Rattle.std.specs.List.{range_with_len};
     ghost use Rattle.chunk_map.specs.Search.{bit_of};
-    ghost use Rattle.chunk_map.specs.Seats.{BelongsTo, HoldsChunk, Shows, knows};
+    ghost use Rattle.chunk_map.specs.Seats.{BelongsTo, HoldsChunk, Shows, ShowsSegment, knows};
     ghost use Rattle.chunk_map.specs.Views.{after, with_chunk, without_chunk};
     ghost use Rattle.chunk_map.specs.Words.{is_free};
     ghost use Rattle.chunk_map.specs.declared.view.MapEvent.TheVariants.{Missed, SawOpen, FoundOpen, OpenedTo};
@@ -115,16 +137,14 @@ impl ChunkMap {
     }
 
     // Looks at the words of a segment that the search hasn't looked at yet.
-    fn look(&self, seat: &mut MapSeat, seen: &mut [u64; 80], segment: usize) -> [u64; 10]
+    fn look(&self, seat: &mut MapSeat, segment: usize) -> [u64; 10]
         requires own { BelongsTo seat.old self.now }
         requires segment { segment < self.now.segments }
         requires fresh { (chunk : ℕ) → 640 * segment ≤ chunk → was_gained (knows seat.old).log chunk ≡ false }
-        requires shows { Shows seen.old (knows seat.old) }
         ensures own { BelongsTo seat.new self.now }
-        ensures shows { Shows seen.new (knows seat.new) }
-        ensures others { (number : ℕ) → number / 10 ≢ segment → slice_index seen.new number ≡ slice_index seen.old number }
         ensures long { length result ≡ 10 }
-        ensures words { (number : ℕ) → number < 10 → slice_index result number ≡ slice_index seen.new (10 * segment + number) }
+        ensures shows { ShowsSegment segment result (knows seat.new) }
+        ensures elsewhere { (chunk : ℕ) → chunk / 640 ≢ segment → seen_free (knows seat.new).log chunk ≡ seen_free (knows seat.old).log chunk }
         ensures search { SameSearch (knows seat.old) (knows seat.new) }
         ensures looked { (chunk : ℕ) → chunk / 640 ≡ segment → was_looked (knows seat.new).log chunk ≡ true }
         ensures held { (knows seat.new).held ≡ (knows seat.old).held }
@@ -132,18 +152,17 @@ impl ChunkMap {
     {
         let mut words = [0u64; 10];
         for number in 0..10 {
-            let found = self.see_word(seat, 10 * segment + number);
-            seen[10 * segment + number] = found;
-            words[number] = found;
+            words[number] = self.see_word(seat, 10 * segment + number);
         }
         words
     }
 
-    // Claims the first run of a segment that the looks allow. Where a chunk of it is missed, the search goes on behind it.
+    // Claims the first run of a segment that the looks allow, and tells the looks. Where a chunk of a run is missed, the
+    // search goes on behind it.
     fn claim_in(
         &self,
         seat: &mut MapSeat,
-        seen: &mut [u64; 80],
+        words: &mut [u64; 10],
         segment: usize,
         count: usize,
     ) -> Option<usize>
@@ -152,31 +171,66 @@ impl ChunkMap {
         requires open { segment < open_seen (knows seat.old).log }
         requires count { (1 ≤ count) × (count ≤ 640) }
         requires fresh { (chunk : ℕ) → 640 * segment ≤ chunk → was_gained (knows seat.old).log chunk ≡ false }
-        requires shows { Shows seen.old (knows seat.old) }
         ensures own { BelongsTo seat.new self.now }
-        ensures shows { Shows seen.new (knows seat.new) }
-        ensures others { (number : ℕ) → number / 10 ≢ segment → slice_index seen.new number ≡ slice_index seen.old number }
+        ensures shows { ShowsSegment segment words.new (knows seat.new) }
+        ensures elsewhere { (chunk : ℕ) → chunk / 640 ≢ segment → seen_free (knows seat.new).log chunk ≡ seen_free (knows seat.old).log chunk }
         ensures search { SameSearch (knows seat.old) (knows seat.new) }
         ensures looked { (chunk : ℕ) → chunk / 640 ≡ segment → was_looked (knows seat.new).log chunk ≡ true }
         ensures fresh { (chunk : ℕ) → 640 * (segment + 1) ≤ chunk → was_gained (knows seat.new).log chunk ≡ false }
-        ensures some { IfSome result (λ first. AreFree (is_free (slice_index seen.new)) count segment first) }
-        ensures lowest { IfSome result (λ first. NoneBelow (is_free (slice_index seen.new)) count segment first) }
+        ensures some { IfSome result (λ first. AreFree (seen_free (knows seat.new).log) count segment first) }
+        ensures lowest { IfSome result (λ first. NoneBelow (seen_free (knows seat.new).log) count segment first) }
         ensures gained { IfSome result (λ first. (f : ℕ → ℕ) → weigh f (knows seat.new).held ≡ weigh f (range_with_len (640 * segment + first) count) + weigh f (knows seat.old).held) }
         ensures held { IfNone result ((knows seat.new).held ≡ (knows seat.old).held) }
-        ensures none { IfNone result (NoneBelow (is_free (slice_index seen.new)) count segment 640) }
+        ensures none { IfNone result (NoneBelow (seen_free (knows seat.new).log) count segment 640) }
     {
-        let words = self.look(seat, seen, segment);
-        let starts = run_starts(&words, count);
+        *words = self.look(seat, segment);
+        let starts = run_starts(words, count);
         let mut from = 0;
         while let Some(first) = first_from(&starts, from) {
             let gained = self.gain(seat, 640 * segment + first, count);
             if gained == count {
                 return Some(first);
             }
-            clear(seen, 640 * segment + first + gained);
+            clear(words, first + gained);
             from = first + gained + 1;
         }
         None
+    }
+
+    // Goes on with a search that found no run in the first segment, whose looks are `first`.
+    fn claim_behind(&self, seat: &mut MapSeat, first: &[u64; 10], opened: usize, size: u32) -> Claim
+        requires own { BelongsTo seat.old self.now }
+        requires size { (1 ≤ size) × (size ≤ 10485760) }
+        requires open { (opened ≡ open_seen (knows seat.old).log) × (1 ≤ opened) × (opened ≤ self.now.segments) }
+        requires shows { ShowsSegment 0 first.now (knows seat.old) }
+        requires looked { (chunk : ℕ) → chunk < 640 → was_looked (knows seat.old).log chunk ≡ true }
+        requires fresh { (chunk : ℕ) → 640 ≤ chunk → was_gained (knows seat.old).log chunk ≡ false }
+        requires behind { (chunk : ℕ) → 640 ≤ chunk → seen_free (knows seat.old).log chunk ≡ false }
+        requires none { NoneBelow (seen_free (knows seat.old).log) (chunks_for size) 0 640 }
+        ensures own { BelongsTo seat.new self.now }
+        ensures search { SameSearch (knows seat.old) (knows seat.new) }
+        ensures segment { IfRun result (λ run. run.segment < opened) × IfFull result (λ seen. seen.segments ≡ opened) }
+        ensures run { IfRun result (λ run. (run.size ≡ size) × AreFree (seen_free (knows seat.new).log) (chunks_for size) run.segment run.chunk × IsLowest (may_be_free (knows seat.new).log) (chunks_for size) run.segment run.chunk) }
+        ensures gained { IfRun result (λ run. (f : ℕ → ℕ) → weigh f (knows seat.new).held ≡ weigh f (run_chunks run) + weigh f (knows seat.old).held) }
+        ensures full { IfFull result (λ seen. Shows seen.words (knows seat.new) × HasNoRun seen (chunks_for size)) }
+        ensures looked { IfFull result (λ seen. (chunk : ℕ) → chunk < 640 * seen.segments → was_looked (knows seat.new).log chunk ≡ true) }
+        ensures past { IfFull result (λ seen. (number : ℕ) → 10 * seen.segments ≤ number → slice_index seen.words number ≡ 0) }
+        ensures held { IfFull result (λ seen. (knows seat.new).held ≡ (knows seat.old).held) }
+    {
+        let count = chunk_count(size);
+        let mut seen = unseen();
+        note(&mut seen, 0, first);
+        for segment in 1..opened {
+            let mut words = [0u64; 10];
+            if let Some(chunk) = self.claim_in(seat, &mut words, segment, count) {
+                return Claim::Run(run_at(segment, chunk, size));
+            }
+            note(&mut seen, segment, &words);
+        }
+        Claim::Full(Seen {
+            words: seen,
+            segments: opened as u32,
+        })
     }
 
     /// Claims a run of as many neighbouring chunks as so many bytes need. The search takes the lowest open segment, and in it
@@ -198,20 +252,11 @@ impl ChunkMap {
     {
         let count = chunk_count(size);
         let opened = self.see_open(seat) as usize;
-        let mut words = unseen();
-        for segment in 0..opened {
-            if let Some(chunk) = self.claim_in(seat, &mut words, segment, count) {
-                return Claim::Run(Run {
-                    segment: segment as u16,
-                    chunk: chunk as u16,
-                    size,
-                });
-            }
+        let mut words = [0u64; 10];
+        match self.claim_in(seat, &mut words, 0, count) {
+            Some(chunk) => Claim::Run(run_at(0, chunk, size)),
+            None => self.claim_behind(seat, &words, opened, size),
         }
-        Claim::Full(Seen {
-            words,
-            segments: opened as u32,
-        })
     }
 
     /// Gives the chunks of a run back.

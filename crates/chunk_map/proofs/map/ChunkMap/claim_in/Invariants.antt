@@ -7,7 +7,7 @@ abbrev pub invariant-loop-first : goal.invariant-loop-first
 invariant-loop-first l =
     BelongsTo l.seat l.self
     × (l.from ≤ 640)
-    × Trying (knows l.fn.seat) (knows l.seat) l.fn.seen l.seen l.starts l.segment l.count l.from
+    × Trying (knows l.fn.seat) (knows l.seat) l.words l.starts l.segment l.count l.from
 
 abbrev pub decreases-loop-first : goal.decreases-loop-first
 decreases-loop-first l = 640 - l.from
