@@ -45,7 +45,8 @@ abbrev pub EachPointAfterEveryRun : Type 0
 EachPointAfterEveryRun =
     (shape : Shape) (steps : List Step) → IsValid shape → AllEnabled (opened_core shape) steps → EachPointHolds (after_steps (opened_core shape) steps)
 
--- so no request is both taken and cancelled, nor either twice; and no part, nor two last parts of a stream, is received twice
+-- so no request is both taken and cancelled, nor either of them twice; no part is received twice, and of each stream at most
+-- one last part is received
 abbrev pub NothingEndsTwice : Type 0
 NothingEndsTwice =
     (shape : Shape) (steps : List Step)

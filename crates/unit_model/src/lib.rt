@@ -1,5 +1,5 @@
-//! The model of what engines and workers share: runs of chunks, the shape of a fabric, and the sums by which it is said
-//! who holds what.
+//! The model of what engines and workers share: the machine of queues, chunks and seats with the laws of its steps, the
+//! runs of chunks, the shape of a fabric, and the sums by which it is said who holds what.
 //!
 //! It hands on the types of `unit_types`.
 #![tactic(auto)]

@@ -76,7 +76,8 @@ pub struct Part {
     pub last: bool,
 }
 
-/// What a seat has done, oldest first. An engine's seat leaves a worker's lists empty, and the other way round.
+/// What a seat has done, oldest first. From the opened core on, only an engine's steps add to an engine's lists, and only
+/// a worker's to a worker's.
 #[derive(Debug, Drop)]
 pub struct Seat {
     /// Streams that the engine drew.

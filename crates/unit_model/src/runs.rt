@@ -31,9 +31,9 @@ impl Run {
 #[derive(Debug, Drop)]
 pub struct Seen {
     /// Bit `i` of word `10 * j + w` is chunk `64 * w + i` of the side's segment `j`. It is set where the last look found
-    /// the chunk free. Words past the last segment are 0.
+    /// the chunk free. Words past the segments that were searched are 0.
     pub words: [u64; 80],
-    /// The number of segments.
+    /// The number of segments that were searched: those that were open.
     pub segments: u32,
 }
 
