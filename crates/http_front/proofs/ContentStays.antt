@@ -174,7 +174,7 @@ front_ready room bytes unready told = absurd (told refl)
 front_ready room bytes too_long told = refl
 front_ready room bytes (block n) told = refl
 
-chunk_stays : (room : ℕ) (bytes more : List ℕ) → first_chunk room bytes ≢ Open → first_chunk room (bytes ++ more) ≡ first_chunk room bytes
+pub chunk_stays : (room : ℕ) (bytes more : List ℕ) → first_chunk room bytes ≢ Open → first_chunk room (bytes ++ more) ≡ first_chunk room bytes
 unfolding first_chunk
 chunk_stays room bytes more told =
     ap (front_chunk room (bytes ++ more)) (line_stays bytes more (front_ready room bytes (line_front bytes) told))

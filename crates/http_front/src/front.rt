@@ -1,5 +1,5 @@
 //! What stands at the front of the bytes of a connection (RFC 9112, sections 2, 3 and 6).
-ghost use Rattle.std.specs.Prelude.{◌≡◌, ◌+◌, ◌^◌, ◌<◌, ◌≤◌, length, None, true, IfOk};
+ghost use Rattle.std.specs.Prelude.{◌≡◌, ◌+◌, ◌^◌, ◌<◌, ◌≤◌, length, None, true, false, IfOk};
 ghost use Rattle.http_front.specs.Front.{blank_len, front_found, head_begun, is_ready};
 ghost use Rattle.http_front.specs.Head.{head_of};
 ghost use Rattle.http_front.specs.Checks as checks;

@@ -39,7 +39,7 @@ impl Progress {
 
 /// The progress behind a head of so many bytes with these fields, given the largest content that is taken.
 pub(crate) fn content_progress(used: usize, max_body: u64, fields: &[Field]) -> Progress
-    ensures content { content_length fields.now ≤ max_body → result ≡ Content used (spec.framing_of max_body fields.now) }
+    ensures { content_length fields.now ≤ max_body → result ≡ Content used (spec.framing_of max_body fields.now) }
 {
     match framing_of(max_body, fields) {
         Some(framing) => Progress::Content(used, framing),
@@ -109,15 +109,15 @@ fn chunks_over(at: usize, room: u64, bytes: &[u8]) -> Option<Progress>
     requires { at ≤ length bytes.now }
     ensures { IfSome result (λ p. ContentMoves at (Chunks room) p bytes.now) }
 {
-    let mut at = at;
-    let mut room = room;
+    let mut place = at;
+    let mut left = room;
     loop {
-        match first_chunk(room, behind(bytes, at)) {
+        match first_chunk(left, behind(bytes, place)) {
             Chunk::Data(line, size) => {
-                room -= size as u64;
-                at += line + size + 2;
+                left -= size as u64;
+                place += line + size + 2;
             }
-            Chunk::Open => return Some(Progress::Content(at, Framing::Chunks(room))),
+            Chunk::Open => return Some(Progress::Content(place, Framing::Chunks(left))),
             Chunk::Last(_) | Chunk::Refused(_) => return None,
         }
     }

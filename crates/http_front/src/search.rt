@@ -49,13 +49,19 @@ fn behind_line(search: Search, len: usize, bytes: &[u8]) -> Option<Search>
     ensures further { IfSome result (λ s. s.searched ≡ search.searched + len + 1) }
 {
     let end = search.searched + len;
-    let is_empty = is_empty_line(&bytes[search.line..end]);
-    if is_empty && search.blank < search.line {
-        return None;
+    if !is_empty_line(&bytes[search.line..end]) {
+        Some(Search {
+            blank: search.blank,
+            line: end + 1,
+            searched: end + 1,
+        })
+    } else if search.line == search.blank {
+        Some(Search {
+            blank: end + 1,
+            line: end + 1,
+            searched: end + 1,
+        })
+    } else {
+        None
     }
-    Some(Search {
-        blank: if is_empty { end + 1 } else { search.blank },
-        line: end + 1,
-        searched: end + 1,
-    })
 }
