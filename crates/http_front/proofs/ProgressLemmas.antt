@@ -1,10 +1,9 @@
 -- What a reader knows of its bytes, over more bytes and over its steps.
-use Rattle.std.proofs.Common.{ℕ, ◌≡◌, ◌+◌, ◌-◌, ◌<◌, ◌≤◌, refl, sym, ap, ◌∙◌, subst, List, [], ◌∷◌, ◌++◌, length, take, drop, Bool, true, false, not, ◌&&◌, nat_le, if◌then◌else◌, Option, Some, None, arith, append_assoc, append-nil, length-append, length-drop, drop-drop, ltb-false, Result, Ok, Err, IfOk}
+use Rattle.std.proofs.Common.{ℕ, ◌≡◌, ◌+◌, ◌-◌, ◌<◌, ◌≤◌, refl, sym, ap, ◌∙◌, subst, List, [], ◌++◌, length, take, drop, Bool, true, false, not, ◌&&◌, nat_le, if◌then◌else◌, Option, Some, None, arith, append_assoc, append-nil, length-append, length-drop, drop-drop, ltb-false, Result, Ok, Err, IfOk}
 use Rattle.std.proofs.lemmas.List.{take-append-le, drop-append-le}
 use Rattle.std.proofs.lemmas.Bool.Decides.{nat_tests}
 use Rattle.httparse.specs.Grammar.{RequestHead}
 use Rattle.unit_types.specs.declared.field.Field.{Field}
-use Rattle.http_front.specs.declared.search.Search.{Search}
 use Rattle.http_front.specs.declared.progress.Framing.{Framing}
 use Rattle.http_front.specs.declared.progress.Framing.TheVariants.{Length, Chunks}
 use Rattle.http_front.specs.declared.progress.Progress.{Progress}
@@ -13,15 +12,15 @@ use Rattle.http_front.specs.declared.content.Content.{Content}
 use Rattle.http_front.specs.declared.chunk.Chunk.TheVariants.{Data}
 use Rattle.http_front.specs.declared.chunk.Chunk.TheVariants as Chunk
 use Rattle.http_front.specs.Head.{head_of}
-use Rattle.http_front.specs.Front.{Front, block, blank_len, front_of, is_ready, head_limit, head_begun}
+use Rattle.http_front.specs.Front.{block, blank_len, front_of, is_ready, head_limit, head_begun}
 use Rattle.http_front.specs.Message.{fields_of}
 use Rattle.http_front.specs.Target.{is_faulty_target}
 use Rattle.http_front.specs.Checks.{has_too_many_lines, lacks_host, is_ambiguous, has_other_coding, has_faulty_length, is_too_long, is_chunked, content_length, refusal_step, refusal_of}
-use Rattle.http_front.specs.Chunks.{first_chunk, content_behind, chunk_len, chunks_in, chunked_content}
+use Rattle.http_front.specs.Chunks.{first_chunk, content_behind, chunk_len, chunked_content}
 use Rattle.http_front.specs.Content.{sized_content, content_of, is_continue_due}
-use Rattle.http_front.specs.NextUnit.{NextUnit, wait, content_found, checked_unit, block_unit, front_unit, next_unit}
+use Rattle.http_front.specs.NextUnit.{content_found, checked_unit, block_unit, front_unit, next_unit}
 use Rattle.http_front.specs.Reading.{Reading, limit_or, kept_limit, unit_in}
-use Rattle.http_front.specs.Progress.{IsSearched, content_by, framing_of, waiting, Waits, start, Tells, TellsBehind, Idles, Knows, IsWithin, HeadOver, ContentOver, ContentMoves, Moves, Unchanged}
+use Rattle.http_front.specs.Progress.{content_by, framing_of, waiting, Waits, start, Tells, TellsBehind, Knows, IsWithin, Moves, Unchanged}
 use Rattle.http_front.proofs.ChunkLemmas.{steps_enough, chunks_step, chunk_fits_as}
 use Rattle.http_front.proofs.ContentStays.{chunk_stays}
 use Rattle.http_front.proofs.FrontStays.{front_fits}
@@ -94,11 +93,14 @@ ok_weaker (Err e) P Q weaker is = tt
 pub tells_behind : (many : Bool) (limit used : ℕ) (head : Option RequestHead) (h : RequestHead) (due : Bool) → many ≡ false → head ≡ Some h
     → refusal_of limit h.minor h.target (fields_of h) ≡ None → due ≡ is_continue_due h.minor (fields_of h)
     → TellsBehind (At.Content used (framing_of limit (fields_of h))) used (λ bytes. block_unit many limit used bytes false head) due
-tells_behind many limit used head h due few is serves asks = (refl, λ bytes left.
-    let content : content_of limit (fields_of h) bytes ≡ Content.Open = content_framed limit (fields_of h) bytes ∙ left in
-    (λ i. block_unit (few i) limit used bytes false (is i))
-    ∙ ap (checked_unit h limit used bytes false) serves
-    ∙ (λ i. record { continue_due = sym asks i; found = content_found h used false (content i) }))
+tells_behind many limit used head h due few is serves asks = (
+  refl,
+  λ bytes left.
+      let content : content_of limit (fields_of h) bytes ≡ Content.Open = content_framed limit (fields_of h) bytes ∙ left in
+      (λ i. block_unit (few i) limit used bytes false (is i))
+      ∙ ap (checked_unit h limit used bytes false) serves
+      ∙ (λ i. record { continue_due = sym asks i; found = content_found h used false (content i) }),
+)
 
 pub waits_behind : (bytes : List ℕ) (n limit at : ℕ) (framing : Framing) (due : Bool) → front_of head_limit (rest_of bytes) ≡ block n
     → TellsBehind (At.Content at framing) (blank_len bytes + n)
@@ -177,27 +179,40 @@ unchanged r limit due is idle kept = rw (is, idle, kept) (refl, refl)
 pub knows_over : (p q : Progress) (r : Reading) → Knows p r.unread r.limit r.is_told → Moves p q r.unread → r.ended ≡ false
     → ((limit : ℕ) → Unchanged r limit) × Knows q r.unread r.limit r.is_told
 knows_over (At.Head s) (At.Head t) r knows moves going =
-    let waits = search_waits t r.unread moves.0 moves.1 moves.2 in
-    (λ limit. unchanged r limit false (ap (λ e. next_unit r.unread e (limit_or r.limit limit)) going ∙ waits.1 (limit_or r.limit limit)) refl
-        (ap (λ t. kept_limit t r.limit limit) waits.0), moves.0)
+    let waits = search_waits t r.unread moves.0 moves.1 moves.2 in (
+      λ limit. unchanged r limit false (ap (λ e. next_unit r.unread e (limit_or r.limit limit)) going ∙ waits.1 (limit_or r.limit limit)) refl
+          (ap (λ t. kept_limit t r.limit limit) waits.0),
+      moves.0,
+    )
 knows_over (At.Head s) (At.Content at framing) r knows moves going = absurd moves
 knows_over (At.Content at framing) (At.Head t) r knows moves going = absurd moves
 knows_over (At.Content at framing) (At.Content then_at then_framing) r knows moves going =
     let waits = knows.waits in
     let whole : r.unread ++ [] ≡ r.unread = append-nil r.unread in
     let unit : next_unit r.unread false knows.limit ≡ waiting knows.due =
-    subst (λ (ys : List ℕ). content_by framing (drop at ys) ≡ Content.Open → next_unit ys false knows.limit ≡ waiting knows.due) whole (waits.waits []) moves.is_open in
-    (λ limit.
-        let counts : limit_or r.limit limit ≡ knows.limit = ap (λ k. limit_or k limit) knows.is_kept in
-        unchanged r limit knows.due ((λ i. next_unit r.unread (going i) (counts i)) ∙ unit) knows.is_idle
-        ((λ i. kept_limit (waits.complete i) r.limit limit) ∙ ap Some counts ∙ sym knows.is_kept), record {
-      limit = knows.limit;
-      due = knows.due;
-      is_kept = knows.is_kept;
-      is_idle = knows.is_idle;
-      waits = record {
-        within = moves.within;
-        complete = waits.complete;
-        waits = λ more left. waits.waits more (moves.stays more left);
-      };
-    })
+    subst (λ (ys : List ℕ). content_by framing (drop at ys) ≡ Content.Open → next_unit ys false knows.limit ≡ waiting knows.due) whole (waits.waits []) moves.is_open in (
+      λ limit.
+          let counts : limit_or r.limit limit ≡ knows.limit = ap (λ k. limit_or k limit) knows.is_kept in
+          unchanged r limit knows.due ((λ i. next_unit r.unread (going i) (counts i)) ∙ unit) knows.is_idle
+          ((λ i. kept_limit (waits.complete i) r.limit limit) ∙ ap Some counts ∙ sym knows.is_kept),
+      record {
+        limit = knows.limit;
+        due = knows.due;
+        is_kept = knows.is_kept;
+        is_idle = knows.is_idle;
+        waits = record {
+          within = moves.within;
+          complete = waits.complete;
+          waits = λ more left. waits.waits more (moves.stays more left);
+        };
+      },
+    )
+
+-- a piece more behind the bytes that were used, or none
+pub knows_fed : (p : Progress) (items piece : List ℕ) (used : ℕ) (kept : Option ℕ) (is_told is_fed : Bool) → used ≤ length items → Knows p (drop used items) kept is_told
+    → (used ≤ length (if is_fed then items ++ piece else items)) × Knows p (drop used (if is_fed then items ++ piece else items)) kept is_told
+knows_fed p items piece used kept is_told true within knows = (
+  simp length-append (omega (arith, within)),
+  subst (λ (ys : List ℕ). Knows p ys kept is_told) (sym (drop-append-le used items piece within)) (knows_more p (drop used items) piece kept is_told knows),
+)
+knows_fed p items piece used kept is_told false within knows = (within, knows)

@@ -1,6 +1,5 @@
 -- What a reader knows of the front of its bytes while it needs more, so that it doesn't read them anew.
 use Rattle.std.specs.Prelude.{ℕ, ◌≡◌, ◌≢◌, ◌+◌, ◌<◌, ◌≤◌, Bool, true, false, not, ◌&&◌, List, ◌++◌, length, drop, Option, Some, if◌then◌else◌}
-use Rattle.std.specs.Bool.{⊤}
 use Rattle.std.specs.Option.{option_map}
 use Rattle.std.specs.List.{AllByRecursion}
 use Rattle.unit_types.specs.declared.field.Field.{Field}

@@ -64,9 +64,9 @@ returns-in-Some-clause-progress c =
     let front = sym (front_is c.behind-rest.result.now c.first_bytes.result.now (Some size) c.first_bytes.ensures (sym c.in-Some.is ∙ c.block_len.ensures.value)) in
     let ahead : front_of head_limit (rest_of c.args.bytes.now) ≡ block size = ap (front_of head_limit) (sym rest) ∙ front in
     ok_weaker c.read_block.result _ _ (λ step tells.
-        tells_front c.args.bytes.now size c.args.max_body step.progress step.told.is_due ahead
-        (subst (λ (w : List ℕ). TellsBehind step.progress (blank_len c.args.bytes.now + size)
-        (λ ys. block_unit (has_too_many_lines w) c.args.max_body (blank_len c.args.bytes.now + size) ys false (head_of w)) step.told.is_due) block_is
-        (subst (λ (n : ℕ). TellsBehind step.progress (n + size)
-        (λ ys. block_unit (has_too_many_lines c.first_bytes-in-Some.result.now) c.args.max_body (n + size) ys false (head_of c.first_bytes-in-Some.result.now)) step.told.is_due) passed tells)))
+    tells_front c.args.bytes.now size c.args.max_body step.progress step.told.is_due ahead
+    (subst (λ (w : List ℕ). TellsBehind step.progress (blank_len c.args.bytes.now + size)
+    (λ ys. block_unit (has_too_many_lines w) c.args.max_body (blank_len c.args.bytes.now + size) ys false (head_of w)) step.told.is_due) block_is
+    (subst (λ (n : ℕ). TellsBehind step.progress (n + size)
+    (λ ys. block_unit (has_too_many_lines c.first_bytes-in-Some.result.now) c.args.max_body (n + size) ys false (head_of c.first_bytes-in-Some.result.now)) step.told.is_due) passed tells)))
     c.read_block.ensures.progress

@@ -1,7 +1,6 @@
-use Rattle.std.proofs.Common.{ℕ, ◌≡◌, ◌∙◌, ◌+◌, ◌++◌, List, [], sym, ap, subst, drop, arith, append-nil, length-drop}
+use Rattle.std.proofs.Common.{◌∙◌, [], sym, ap, drop, arith, append-nil, length-drop}
 use Rattle.http_front.specs.declared.chunk.Chunk.TheVariants.{Data}
-use Rattle.http_front.specs.declared.content.Content.TheVariants.{Open}
-use Rattle.http_front.specs.Chunks.{first_chunk, chunk_len, chunked_content}
+use Rattle.http_front.specs.Chunks.{first_chunk, chunked_content}
 use Rattle.http_front.proofs.ChunkLemmas.{chunk_fits_as}
 use Rattle.http_front.proofs.ProgressLemmas.{chunk_open, chunk_behind}
 use Rattle.http_front.proofs.progress.chunks_over.Goals as goal

@@ -1,4 +1,4 @@
-use Rattle.std.proofs.Common.{◌∙◌, ap, sym, subst, drop, List, ℕ, Option, Some, IfSome}
+use Rattle.std.proofs.Common.{◌∙◌, ap, subst, drop, List, ℕ}
 use Rattle.http_front.specs.Progress.{Moves}
 use Rattle.http_front.specs.Reading.{Reading}
 use Rattle.http_front.specs.Progress.{Unchanged}
