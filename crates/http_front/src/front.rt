@@ -13,7 +13,7 @@ use crate::block::{FIELD_LIMIT, HEAD_LIMIT, blank_len, block_len, has_too_many_l
 use crate::checks::refusal_of;
 use crate::content::{Content, content_of, is_continue_due};
 use crate::head::whole_head;
-use crate::progress::{Progress, content_progress};
+use crate::progress::{Progress, content_progress, head_progress};
 use crate::reader::Next;
 use crate::request::request_of;
 use crate::text::{behind, first_bytes};
@@ -91,7 +91,7 @@ pub(crate) fn read_front(
         ),
         None => Ok(Step {
             told: without_block(rest, ended),
-            progress: Progress::START,
+            progress: head_progress(bytes),
         }),
     }
 }

@@ -1,8 +1,8 @@
 //! What is known of the bytes at the front of a connection's input, while more are needed.
-ghost use Rattle.std.specs.Prelude.{◌≡◌, ◌<◌, ◌≤◌, length, IfSome, IfNone};
+ghost use Rattle.std.specs.Prelude.{◌≡◌, ◌<◌, ◌≤◌, ℕ, Bool, length, IfSome, IfNone};
 ghost use Rattle.http_front.specs.Checks.{content_length};
 ghost use Rattle.http_front.specs.Progress as spec;
-ghost use Rattle.http_front.specs.Progress.{IsSearched, IsWithin, HeadOver, ContentMoves, Moves};
+ghost use Rattle.http_front.specs.Progress.{IsSearched, IsWithin, HeadOver, ContentMoves, Moves, Tells};
 ghost use Rattle.http_front.specs.declared.progress.Progress.TheVariants.{Content};
 ghost use Rattle.http_front.specs.declared.progress.Framing.TheVariants.{Length, Chunks};
 
@@ -35,6 +35,16 @@ pub(crate) enum Progress {
 impl Progress {
     /// Of bytes that were not looked at.
     pub(crate) const START: Progress = Progress::Head(Search::START);
+}
+
+/// The progress once the end of the head was looked for in all bytes.
+pub(crate) fn head_progress(bytes: &[u8]) -> Progress
+    ensures { (max_body : ℕ) (due : Bool) → Tells result bytes.now max_body due }
+{
+    match search_on(Search::START, bytes) {
+        Some(search) => Progress::Head(search),
+        None => Progress::START,
+    }
 }
 
 /// The progress behind a head of so many bytes with these fields, given the largest content that is taken.

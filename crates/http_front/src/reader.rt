@@ -135,7 +135,7 @@ impl Reader {
         ensures same { self.new ≡ self.old }
         ensures waits { IsTrue result → (limit : ℕ) → Unchanged self.old limit }
     {
-        if self.ended {
+        if self.ended || self.progress == Progress::START {
             return false;
         }
         match progress_over(self.progress, behind(&self.bytes, self.used)) {
