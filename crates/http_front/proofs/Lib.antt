@@ -19,3 +19,4 @@ mod RequestLemmas
 pub mod SessionLemmas
 mod SearchLemmas
 mod StayLemmas
+mod UnitLemmas

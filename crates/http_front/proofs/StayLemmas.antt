@@ -150,7 +150,7 @@ ready_unit limit blank bytes more ended (block n) ready fits told =
 
 -- ---- the law
 
--- a head that has begun to be answered stays so, and what is found stays
+-- a head that is complete stays so, and what is found stays
 abbrev pub rest_of : List ℕ → List ℕ
 rest_of bytes = drop (blank_len bytes) bytes
 
