@@ -9,6 +9,7 @@ import measure
 
 GET = b"GET / HTTP/1.1\r\nHost: a\r\n\r\n"
 LIMIT = 268435456
+CONTENT = 8388608
 
 
 def main():
@@ -32,6 +33,12 @@ def main():
         measure.report("%d bytes of %s: time" % (size, name), ours / read, 1.5)
         measure.report("%d bytes of %s: memory" % (size, name), memory / size, 2.5)
         os.unlink(path)
+
+    head = b"POST / HTTP/1.1\r\nHost: a\r\nContent-Length: %d\r\n\r\n" % CONTENT
+    path = measure.with_input([head] + [block] * (CONTENT >> 20))
+    (ours, _), (read, _) = measure.best([[measure.UNIT, "once", "count"], reading], path, 20)
+    measure.report("%d bytes of content through `count`: time" % CONTENT, ours / read, 3)
+    os.unlink(path)
     return 0
 
 

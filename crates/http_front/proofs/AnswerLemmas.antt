@@ -1,10 +1,11 @@
 -- What an answer of a reader can be.
-use Rattle.std.proofs.Common.{ℕ, ◌<◌, ◌≡◌, ◌∙◌, sym, ap, refl, Bool, true, false, if◌then◌else◌}
+use Rattle.std.proofs.Common.{ℕ, ◌<◌, ◌≡◌, ◌∙◌, sym, ap, refl, arith, Bool, true, false, if◌then◌else◌, ◌&&◌, not}
+use Rattle.std.proofs.lemmas.Bool.{false≢true}
 use Rattle.http_front.specs.declared.reader.Next.{Next}
 use Rattle.http_front.specs.declared.reader.Next.TheVariants as Answer
 use Rattle.http_front.specs.NextUnit.{Found, request, bad, cut, finished, wait, NextUnit, next_unit}
-use Rattle.http_front.specs.Reading.{Reading, limit_or, unit_in, answer_for, asks_now, unit_answer, next_answer}
-use Rattle.http_front.proofs.ReaderLemmas.{small_status}
+use Rattle.http_front.specs.Reading.{Reading, limit_or, unit_in, answer_for, asks_now, unit_answer, next_answer, next_reading}
+use Rattle.http_front.proofs.ReaderLemmas.{error_status}
 use Rattle.http_front.proofs.StayLemmas.{ended_tells}
 
 -- but for `Continue`, an answer tells what was found
@@ -49,7 +50,8 @@ bad_answer r wait status is = absurd (cc is)
 pub bad_is_small : (r : Reading) (limit status : ℕ) → next_answer r limit ≡ Answer.Bad status → status < 1000
 bad_is_small r limit status is =
     let found = found_answer r (unit_in r limit) (Answer.Bad status) is (λ same. cc) in
-    small_status r.unread r.ended (limit_or r.limit limit) status (bad_answer r (unit_in r limit).found status found.1)
+    let error = error_status r.unread r.ended (limit_or r.limit limit) status (bad_answer r (unit_in r limit).found status found.1) in
+    omega (arith, error.1)
 
 wait_answer : (r : Reading) (f : Found) → answer_for r f ≡ Answer.NeedMore → f ≡ wait
 wait_answer r (request m used) is = absurd (cc is)
@@ -64,3 +66,19 @@ ended_awaits_nothing r limit ended is =
     let found = found_answer r (unit_in r limit) Answer.NeedMore is (λ same. cc) in
     ended_tells r.unread (limit_or r.limit limit)
     (ap (λ over. (next_unit r.unread over (limit_or r.limit limit)).found) (sym ended) ∙ wait_answer r (unit_in r limit).found found.1)
+
+-- once told, `100 Continue` is not told again
+told_idle : (r : Reading) (unit : NextUnit) → r.is_told ≡ true → unit_answer r unit ≡ Answer.Continue → ⊥
+told_idle r unit told is =
+    let asks = continue_answer r unit is in
+    false≢true (sym (and_false unit.continue_due) ∙ ap (λ t. unit.continue_due && not t) (sym told) ∙ asks)
+  where
+    and_false : (b : Bool) → (b && false) ≡ false
+    and_false true = refl
+    and_false false = refl
+
+pub continue_once : (r : Reading) (limit again : ℕ) → next_answer r limit ≡ Answer.Continue → next_answer (next_reading r limit) again ≡ Answer.Continue → ⊥
+continue_once r limit again is =
+    let asks : asks_now r (unit_in r limit) ≡ true = continue_answer r (unit_in r limit) is in
+    let after : (next_reading r limit).is_told ≡ true = rw asks refl in
+    told_idle (next_reading r limit) (unit_in (next_reading r limit) again) after

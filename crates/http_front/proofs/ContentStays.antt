@@ -15,12 +15,16 @@ use Rattle.http_front.specs.Chunks.{line_feed_chunk, return_chunk, data_chunk, l
 use Rattle.http_front.specs.Content.{sized_content, content_of}
 use Rattle.http_front.proofs.FrontStays.{front_stays, front_fits, line_stays, line_fits}
 
+-- a status that refuses (RFC 9110, sections 15.5 and 15.6)
+abbrev pub IsErrorStatus : ℕ → Type 0
+IsErrorStatus status = (400 ≤ status) × (status < 600)
+
 -- ---- a chunk lies in its bytes, and its data in the room for them
 
 abbrev pub FitsChunk : ℕ → ℕ → Chunk → Type 0
 FitsChunk room have (Data line size) = (line + size + 2 ≤ have) × (size ≤ room)
 FitsChunk room have (Last n) = n ≤ have
-FitsChunk room have (Refused status) = status < 1000
+FitsChunk room have (Refused status) = IsErrorStatus status
 FitsChunk room have Open = ⊤
 
 feed_fits : (room have line size : ℕ) (bytes : List ℕ) → line + size + 1 + length bytes ≤ have → size ≤ room → FitsChunk room have (line_feed_chunk line size bytes)
@@ -84,7 +88,7 @@ chunk_fits room bytes = by_front (line_front bytes) refl
 
 abbrev pub FitsContent : ℕ → Content → Type 0
 FitsContent have (Content.Whole content len) = len ≤ have
-FitsContent have (Content.Refused status) = status < 1000
+FitsContent have (Content.Refused status) = IsErrorStatus status
 FitsContent have Content.Open = ⊤
 
 behind_fits : (bytes : List ℕ) (used left have : ℕ) (c : Content) → used + left ≤ have → FitsContent left c → FitsContent have (content_behind bytes used c)
@@ -174,7 +178,7 @@ front_ready room bytes unready told = absurd (told refl)
 front_ready room bytes too_long told = refl
 front_ready room bytes (block n) told = refl
 
-chunk_stays : (room : ℕ) (bytes more : List ℕ) → first_chunk room bytes ≢ Open → first_chunk room (bytes ++ more) ≡ first_chunk room bytes
+pub chunk_stays : (room : ℕ) (bytes more : List ℕ) → first_chunk room bytes ≢ Open → first_chunk room (bytes ++ more) ≡ first_chunk room bytes
 unfolding first_chunk
 chunk_stays room bytes more told =
     ap (front_chunk room (bytes ++ more)) (line_stays bytes more (front_ready room bytes (line_front bytes) told))

@@ -1,5 +1,5 @@
 -- What is found within a limit stays as it is, however the input goes on.
-use Rattle.std.proofs.Common.{ℕ, ◌≡◌, ◌+◌, ◌-◌, ◌≤◌, zero, suc, refl, ap, ◌∙◌, List, [], ◌∷◌, ◌++◌, length, take, Bool, true, false, nat_le, if◌then◌else◌, Option, Some, None, arith, length-take, length-append}
+use Rattle.std.proofs.Common.{ℕ, ◌≡◌, ◌+◌, ◌-◌, ◌≤◌, ◌<◌, zero, suc, refl, ap, ◌∙◌, List, [], ◌∷◌, ◌++◌, length, take, Bool, true, false, nat_le, if◌then◌else◌, Option, Some, None, arith, length-take, length-append}
 use Rattle.std.proofs.lemmas.List.{take-append-le}
 use Rattle.std.proofs.lemmas.Bool.{leb-true, le-leb}
 use Rattle.http_front.specs.Head.{lines_in}
@@ -83,6 +83,31 @@ front_stays limit bytes more ready = found_stays block_in block_more limit bytes
 pub front_fits : (limit : ℕ) (bytes : List ℕ) (n : ℕ) → front_of limit bytes ≡ block n → n ≤ length bytes
 unfolding front_of block_len
 front_fits limit bytes n is = found_fits block_in block_within limit bytes n is
+
+-- a block has a byte at least
+block_some : (ls : List (List ℕ)) (n : ℕ) → block_in ls ≡ Some n → 0 < n
+block_some [] n is = absurd (cc)
+block_some (l ∷ ls) n is = by_line (is_empty_line l) (block_in ls) is
+  where
+    by_line : (t : Bool) (o : Option ℕ) → block_step t (length l) o ≡ Some n → 0 < n
+    by_line true o is = let same : length l + 1 ≡ n = some_injective (length l + 1) n is in omega (arith, same)
+    by_line false None is = absurd (cc)
+    by_line false (Some k) is = let same : length l + 1 + k ≡ n = some_injective (length l + 1 + k) n is in omega (arith, same)
+
+pub front_some : (limit : ℕ) (bytes : List ℕ) (n : ℕ) → front_of limit bytes ≡ block n → 0 < n
+unfolding front_of block_len
+front_some limit bytes n is = by_block (block_in (lines_in (take limit bytes))) refl is
+  where
+    by_length : (t : Bool) → (if t then too_long else unready) ≡ block n → 0 < n
+    by_length true is = absurd (cc)
+    by_length false is = absurd (cc)
+
+    by_block : (o : Option ℕ) → block_in (lines_in (take limit bytes)) ≡ o → front_found limit bytes o ≡ block n → 0 < n
+    by_block (Some k) is same =
+        let e : k ≡ n = cc in
+        let some = block_some (lines_in (take limit bytes)) k is in
+        omega (arith, e, some)
+    by_block None is same = by_length (nat_le limit (length bytes)) same
 
 -- ---- lines
 

@@ -13,7 +13,10 @@ mod FrontLemmas
 mod FrontStays
 mod HeadLemmas
 mod Numbers
+mod ProgressLemmas
 mod ReaderLemmas
 mod RequestLemmas
 pub mod SessionLemmas
+mod SearchLemmas
 mod StayLemmas
+mod UnitLemmas

@@ -7,7 +7,7 @@ use Rattle.http_front.specs.declared.content.Content.{Content}
 use Rattle.http_front.specs.declared.content.Content.TheVariants.{Whole, Refused, Open}
 use Rattle.http_front.specs.Head.{head_of}
 use Rattle.http_front.specs.Front.{Front, unready, too_long, block, blank_len, front_of, head_limit, head_begun}
-use Rattle.http_front.specs.Message.{fields_of}
+use Rattle.http_front.specs.Message.{Message, fields_of}
 use Rattle.http_front.specs.Target.{is_faulty_target}
 use Rattle.http_front.specs.Checks.{has_too_many_lines, lacks_host, is_ambiguous, has_other_coding, has_faulty_length, is_too_long, refusal_step, refusal_of}
 use Rattle.http_front.specs.Content.{content_of}
@@ -16,14 +16,14 @@ use Rattle.unit_types.specs.declared.message.Addr.{Addr}
 use Rattle.http_front.specs.declared.front.Told.{Told}
 use Rattle.http_front.specs.Reading.{Reading, reading_of, unit_in, answer_at, is_request, used_by, told_of, asks_now, kept_limit, behind_found, next_reading}
 use Rattle.http_front.proofs.BlockLemmas.{blank_within}
-use Rattle.http_front.proofs.FrontStays.{front_fits}
-use Rattle.http_front.proofs.ContentStays.{FitsContent, content_fits}
+use Rattle.http_front.proofs.FrontStays.{front_some, front_fits}
+use Rattle.http_front.proofs.ContentStays.{IsErrorStatus, FitsContent, content_fits}
 
--- ---- a unit lies in its bytes, and a status has three digits
+-- ---- a unit lies in its bytes, and a status is one of an error
 
 abbrev pub FitsFound : ℕ → Found → Type 0
-FitsFound have (request m used) = used ≤ have
-FitsFound have (bad status) = status < 1000
+FitsFound have (request m used) = (0 < used) × (used ≤ have)
+FitsFound have (bad status) = IsErrorStatus status
 FitsFound have cut = ⊤
 FitsFound have finished = ⊤
 FitsFound have wait = ⊤
@@ -32,21 +32,21 @@ fits_open : (have : ℕ) (ended : Bool) → FitsFound have (open_found ended)
 fits_open have false = tt
 fits_open have true = tt
 
-fits_content : (h : RequestHead) (used left have : ℕ) (ended : Bool) (c : Content) → used + left ≤ have → FitsContent left c → FitsFound have (content_found h used ended c)
-fits_content h used left have ended (Whole content len) low fits = omega (arith, low, fits)
-fits_content h used left have ended (Refused status) low fits = fits
-fits_content h used left have ended Open low fits = fits_open have ended
+fits_content : (h : RequestHead) (used left have : ℕ) (ended : Bool) (c : Content) → 0 < used → used + left ≤ have → FitsContent left c → FitsFound have (content_found h used ended c)
+fits_content h used left have ended (Whole content len) some low fits = omega (arith, some, low, fits)
+fits_content h used left have ended (Refused status) some low fits = fits
+fits_content h used left have ended Open some low fits = fits_open have ended
 
--- each check refuses with a small status
-small_refusal : (limit minor : ℕ) (target : List ℕ) (fields : List Field) (status : ℕ) → refusal_of limit minor target fields ≡ Some status → status < 1000
-small_refusal limit minor target fields status is =
+-- each check refuses with the status of an error
+error_refusal : (limit minor : ℕ) (target : List ℕ) (fields : List Field) (status : ℕ) → refusal_of limit minor target fields ≡ Some status → IsErrorStatus status
+error_refusal limit minor target fields status is =
     by_six (is_faulty_target target) (lacks_host minor fields) (is_ambiguous minor fields) (has_other_coding fields) (has_faulty_length fields) (is_too_long limit fields) is
   where
-    small : (n : ℕ) → n < 1000 → Some n ≡ Some status → status < 1000
-    small n low same = let e : n ≡ status = cc in omega (arith, low, e)
+    small : (n : ℕ) → IsErrorStatus n → Some n ≡ Some status → IsErrorStatus status
+    small n is same = let e : n ≡ status = cc in omega (arith, is, e)
 
     by_six : (a b c d e f : Bool)
-        → refusal_step a 400 (refusal_step b 400 (refusal_step c 400 (refusal_step d 501 (refusal_step e 400 (refusal_step f 413 None))))) ≡ Some status → status < 1000
+        → refusal_step a 400 (refusal_step b 400 (refusal_step c 400 (refusal_step d 501 (refusal_step e 400 (refusal_step f 413 None))))) ≡ Some status → IsErrorStatus status
     by_six true b c d e f is = small 400 (omega arith) is
     by_six false true c d e f is = small 400 (omega arith) is
     by_six false false true d e f is = small 400 (omega arith) is
@@ -55,18 +55,18 @@ small_refusal limit minor target fields status is =
     by_six false false false false false true is = small 413 (omega arith) is
     by_six false false false false false false is = absurd (cc)
 
-fits_checked : (h : RequestHead) (limit used have : ℕ) (rest : List ℕ) (ended : Bool) (refusal : Option ℕ) → used + length rest ≤ have
-    → ((status : ℕ) → refusal ≡ Some status → status < 1000) → FitsFound have (checked_unit h limit used rest ended refusal).found
-fits_checked h limit used have rest ended (Some status) low small = small status refl
-fits_checked h limit used have rest ended None low small =
-    fits_content h used (length rest) have ended (content_of limit (fields_of h) rest) low (content_fits limit (fields_of h) rest)
+fits_checked : (h : RequestHead) (limit used have : ℕ) (rest : List ℕ) (ended : Bool) (refusal : Option ℕ) → 0 < used → used + length rest ≤ have
+    → ((status : ℕ) → refusal ≡ Some status → IsErrorStatus status) → FitsFound have (checked_unit h limit used rest ended refusal).found
+fits_checked h limit used have rest ended (Some status) some low small = small status refl
+fits_checked h limit used have rest ended None some low small =
+    fits_content h used (length rest) have ended (content_of limit (fields_of h) rest) some low (content_fits limit (fields_of h) rest)
 
-fits_block : (many : Bool) (limit used have : ℕ) (rest : List ℕ) (ended : Bool) (head : Option RequestHead) → used + length rest ≤ have
+fits_block : (many : Bool) (limit used have : ℕ) (rest : List ℕ) (ended : Bool) (head : Option RequestHead) → 0 < used → used + length rest ≤ have
     → FitsFound have (block_unit many limit used rest ended head).found
-fits_block true limit used have rest ended head low = omega arith
-fits_block false limit used have rest ended None low = omega arith
-fits_block false limit used have rest ended (Some h) low =
-    fits_checked h limit used have rest ended (refusal_of limit h.minor h.target (fields_of h)) low (small_refusal limit h.minor h.target (fields_of h))
+fits_block true limit used have rest ended head some low = omega arith
+fits_block false limit used have rest ended None some low = omega arith
+fits_block false limit used have rest ended (Some h) some low =
+    fits_checked h limit used have rest ended (refusal_of limit h.minor h.target (fields_of h)) some low (error_refusal limit h.minor h.target (fields_of h))
 
 fits_end : (have : ℕ) (empty : Bool) → FitsFound have (end_found empty)
 fits_end have true = tt
@@ -76,13 +76,13 @@ fits_unready : (have : ℕ) (ended : Bool) (bytes : List ℕ) → FitsFound have
 fits_unready have false bytes = tt
 fits_unready have true bytes = fits_end have _
 
-fits_front : (limit blank have : ℕ) (bytes : List ℕ) (ended : Bool) (front : Front) → blank + length bytes ≤ have → ((n : ℕ) → front ≡ block n → n ≤ length bytes)
+fits_front : (limit blank have : ℕ) (bytes : List ℕ) (ended : Bool) (front : Front) → blank + length bytes ≤ have → ((n : ℕ) → front ≡ block n → (0 < n) × (n ≤ length bytes))
     → FitsFound have (front_unit limit blank bytes ended front).found
 fits_front limit blank have bytes ended unready low within = fits_unready have ended bytes
 fits_front limit blank have bytes ended too_long low within = omega arith
 fits_front limit blank have bytes ended (block n) low within =
     let inside = within n refl in
-    fits_block (has_too_many_lines (take n bytes)) limit (blank + n) have (drop n bytes) ended (head_of (take n bytes)) (omega (arith, low, inside, length-drop n bytes))
+    fits_block (has_too_many_lines (take n bytes)) limit (blank + n) have (drop n bytes) ended (head_of (take n bytes)) (omega (arith, inside.0)) (omega (arith, low, inside.1, length-drop n bytes))
 
 unit_fits : (bytes : List ℕ) (ended : Bool) (limit : ℕ) → FitsFound (length bytes) (next_unit bytes ended limit).found
 unfolding next_unit blank_len
@@ -90,10 +90,11 @@ unit_fits bytes ended limit =
     let blank = blank_len bytes in
     let rest = drop blank bytes in
     let passed = blank_within bytes in
-    fits_front limit blank (length bytes) rest ended (front_of head_limit rest) (omega (arith, passed, length-drop blank bytes)) (front_fits head_limit rest)
+    fits_front limit blank (length bytes) rest ended (front_of head_limit rest) (omega (arith, passed, length-drop blank bytes))
+    (λ n is. (front_some head_limit rest n is, front_fits head_limit rest n is))
 
 used_found : (have : ℕ) (f : Found) → FitsFound have f → used_by f ≤ have
-used_found have (request m used) fits = fits
+used_found have (request m used) fits = fits.1
 used_found have (bad status) fits = omega arith
 used_found have cut fits = omega arith
 used_found have finished fits = omega arith
@@ -102,8 +103,11 @@ used_found have wait fits = omega arith
 pub used_within : (bytes : List ℕ) (ended : Bool) (limit : ℕ) → used_by (next_unit bytes ended limit).found ≤ length bytes
 used_within bytes ended limit = used_found (length bytes) (next_unit bytes ended limit).found (unit_fits bytes ended limit)
 
-pub small_status : (bytes : List ℕ) (ended : Bool) (limit status : ℕ) → (next_unit bytes ended limit).found ≡ bad status → status < 1000
-small_status bytes ended limit status is = subst (λ (f : Found). FitsFound (length bytes) f) is (unit_fits bytes ended limit)
+pub request_within : (bytes : List ℕ) (ended : Bool) (limit : ℕ) (m : Message) (used : ℕ) → (next_unit bytes ended limit).found ≡ request m used → (0 < used) × (used ≤ length bytes)
+request_within bytes ended limit m used is = subst (λ (f : Found). FitsFound (length bytes) f) is (unit_fits bytes ended limit)
+
+pub error_status : (bytes : List ℕ) (ended : Bool) (limit status : ℕ) → (next_unit bytes ended limit).found ≡ bad status → IsErrorStatus status
+error_status bytes ended limit status is = subst (λ (f : Found). FitsFound (length bytes) f) is (unit_fits bytes ended limit)
 
 -- ---- a reader's step
 

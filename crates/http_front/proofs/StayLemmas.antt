@@ -150,19 +150,19 @@ ready_unit limit blank bytes more ended (block n) ready fits told =
 
 -- ---- the law
 
--- a head that has begun to be answered stays so, and what is found stays
-abbrev rest_of : List ℕ → List ℕ
+-- a head that is complete stays so, and what is found stays
+abbrev pub rest_of : List ℕ → List ℕ
 rest_of bytes = drop (blank_len bytes) bytes
 
 rest_blank : (bytes : List ℕ) → blank_in (lines_in (rest_of bytes)) ≡ 0
 unfolding blank_len
 rest_blank bytes = blank_dropped bytes
 
-blank_within_len : (bytes : List ℕ) → blank_len bytes ≤ length bytes
+pub blank_within_len : (bytes : List ℕ) → blank_len bytes ≤ length bytes
 unfolding blank_len
 blank_within_len bytes = blank_within bytes
 
-blank_stays : (bytes more : List ℕ) → head_begun bytes ≡ true → blank_len (bytes ++ more) ≡ blank_len bytes
+pub blank_stays : (bytes more : List ℕ) → head_begun bytes ≡ true → blank_len (bytes ++ more) ≡ blank_len bytes
 unfolding blank_len
 blank_stays bytes more begun =
     let long = front_long head_limit (rest_of bytes) (omega arith) (blank_dropped bytes) begun in
@@ -170,11 +170,11 @@ blank_stays bytes more begun =
     let adds = blank_more more bytes in
     omega (arith, adds, none)
 
-rest_stays : (bytes more : List ℕ) → head_begun bytes ≡ true → rest_of (bytes ++ more) ≡ rest_of bytes ++ more
+pub rest_stays : (bytes more : List ℕ) → head_begun bytes ≡ true → rest_of (bytes ++ more) ≡ rest_of bytes ++ more
 rest_stays bytes more begun =
     ap (λ n. drop n (bytes ++ more)) (blank_stays bytes more begun) ∙ drop-append-le (blank_len bytes) bytes more (blank_within_len bytes)
 
-begun_stays : (bytes more : List ℕ) → head_begun bytes ≡ true → front_of head_limit (rest_of (bytes ++ more)) ≡ front_of head_limit (rest_of bytes)
+pub begun_stays : (bytes more : List ℕ) → head_begun bytes ≡ true → front_of head_limit (rest_of (bytes ++ more)) ≡ front_of head_limit (rest_of bytes)
 begun_stays bytes more begun =
     ap (front_of head_limit) (rest_stays bytes more begun) ∙ front_stays head_limit (rest_of bytes) more begun
 

@@ -55,7 +55,7 @@ is_ready unready = false
 is_ready too_long = true
 is_ready (block n) = true
 
--- a head has begun to be answered: behind the empty lines stands a whole head block within the limit, or the limit's bytes hold none
+-- the head is complete: behind the empty lines stands a whole head block within the limit, or the limit's bytes hold none
 abbrev pub head_begun : List ℕ → Bool
 head_begun bytes = is_ready (front_of head_limit (drop (blank_len bytes) bytes))
 

@@ -12,3 +12,4 @@ pub mod NextUnit
 pub mod Written
 pub mod Session
 pub mod Reading
+pub mod Progress

@@ -57,7 +57,7 @@ abbrev pub used_by : Found → ℕ
 used_by (request m used) = used
 used_by _ = 0
 
--- both as the reader's own step tells them, and whether the head has begun to be answered
+-- both as the reader's own step tells them, and whether the head is complete
 abbrev pub told_of : Addr → Addr → Bool → NextUnit → Told
 told_of from to begun unit = record {
   answer = answer_at from to unit.found;

@@ -1,8 +1,10 @@
 //! Empty lines and the head block behind them (RFC 9112, sections 2.1 and 2.2).
-ghost use Rattle.std.specs.Prelude.{◌≡◌, ◌+◌, ◌<◌, ◌≤◌, [], ◌∷◌, length, take, drop, position, count_by, IfSome, IfNone};
+ghost use Rattle.std.specs.Prelude.{◌≡◌, ◌+◌, ◌<◌, ◌≤◌, [], ◌∷◌, length, take, drop, position, IfSome, IfNone};
 ghost use Rattle.http_front.specs.Front as spec;
 ghost use Rattle.http_front.specs.Head.{is_line_feed, lines_in};
 ghost use Rattle.http_front.specs.Checks.{has_too_many_lines};
+
+use memchr::memchr;
 
 /// The most bytes of a head block.
 pub(crate) const HEAD_LIMIT: usize = 16384;
@@ -66,13 +68,15 @@ pub(crate) fn line_len(bytes: &[u8]) -> Option<usize>
     feed_place(bytes)
 }
 
-fn feed_place(bytes: &[u8]) -> Option<usize>
+/// Where the first LF stands, if there is one.
+pub(crate) fn feed_place(bytes: &[u8]) -> Option<usize>
     ensures { result ≡ position is_line_feed bytes.now }
 {
-    bytes.iter().position(|b| *b == b'\n')
+    memchr(b'\n', bytes)
 }
 
-fn is_empty_line(line: &[u8]) -> bool
+/// Whether a line, which has lost its LF, is empty.
+pub(crate) fn is_empty_line(line: &[u8]) -> bool
     ensures { result ≡ spec.is_empty_line line.now }
 {
     line.is_empty() || line == b"\r".as_slice()
@@ -86,7 +90,13 @@ pub(crate) fn has_too_many_lines(block: &[u8]) -> bool
 }
 
 fn count_feeds(bytes: &[u8]) -> usize
-    ensures { result ≡ count_by is_line_feed bytes.now }
+    ensures { result ≡ length (lines_in bytes.now) }
 {
-    bytes.iter().filter(|b| **b == b'\n').count()
+    let mut at = 0;
+    let mut lines = 0;
+    while let Some(len) = line_len(&bytes[at..]) {
+        at += len + 1;
+        lines += 1;
+    }
+    lines
 }

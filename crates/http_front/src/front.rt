@@ -1,10 +1,11 @@
 //! What stands at the front of the bytes of a connection (RFC 9112, sections 2, 3 and 6).
-ghost use Rattle.std.specs.Prelude.{◌≡◌, ◌+◌, ◌^◌, ◌<◌, ◌≤◌, length, None, true, IfOk};
+ghost use Rattle.std.specs.Prelude.{◌≡◌, ◌+◌, ◌^◌, ◌<◌, ◌≤◌, length, None, true, false, IfOk};
 ghost use Rattle.http_front.specs.Front.{blank_len, front_found, head_begun, is_ready};
 ghost use Rattle.http_front.specs.Head.{head_of};
 ghost use Rattle.http_front.specs.Checks as checks;
 ghost use Rattle.http_front.specs.NextUnit as spec;
 ghost use Rattle.http_front.specs.Content.{content_of};
+ghost use Rattle.http_front.specs.Progress.{start, Tells, TellsBehind};
 ghost use Rattle.http_front.specs.Reading.{told_of, told_request, refused};
 ghost use Rattle.unit_types.specs.declared.message.Addr.{Addr};
 
@@ -12,6 +13,7 @@ use crate::block::{FIELD_LIMIT, HEAD_LIMIT, blank_len, block_len, has_too_many_l
 use crate::checks::refusal_of;
 use crate::content::{Content, content_of, is_continue_due};
 use crate::head::whole_head;
+use crate::progress::{Progress, content_progress, head_progress};
 use crate::reader::Next;
 use crate::request::request_of;
 use crate::text::{behind, first_bytes};
@@ -29,6 +31,13 @@ pub(crate) struct Told {
     pub(crate) is_begun: bool,
 }
 
+/// What is told of the front of some bytes, and how far their reading has come.
+#[derive(Debug, Drop)]
+pub(crate) struct Step {
+    pub(crate) told: Told,
+    pub(crate) progress: Progress,
+}
+
 impl Told {
     // a head that is refused
     fn refused(status: u16) -> Told
@@ -43,6 +52,18 @@ impl Told {
     }
 }
 
+impl Step {
+    // the same, of which nothing more is to be known
+    fn refused(status: u16) -> Step
+        ensures { result ≡ record { told = refused status; progress = start } }
+    {
+        Step {
+            told: Told::refused(status),
+            progress: Progress::START,
+        }
+    }
+}
+
 /// What stands at the front of the bytes that a connection has left.
 pub(crate) fn read_front(
     alloc: Global,
@@ -51,8 +72,9 @@ pub(crate) fn read_front(
     bytes: &[u8],
     ended: bool,
     max_body: u64,
-) -> Result<Told, AllocError>
-    ensures { IfOk result (λ told. told ≡ told_of from to (head_begun bytes.now) (spec.next_unit bytes.now ended max_body)) }
+) -> Result<Step, AllocError>
+    ensures told { IfOk result (λ step. step.told ≡ told_of from to (head_begun bytes.now) (spec.next_unit bytes.now ended max_body)) }
+    ensures progress { IfOk result (λ step. Tells step.progress bytes.now max_body step.told.is_due) }
 {
     let blank = blank_len(bytes);
     let rest = behind(bytes, blank);
@@ -67,7 +89,10 @@ pub(crate) fn read_front(
             ended,
             max_body,
         ),
-        None => Ok(without_block(rest, ended)),
+        None => Ok(Step {
+            told: without_block(rest, ended),
+            progress: head_progress(bytes),
+        }),
     }
 }
 
@@ -103,23 +128,28 @@ fn read_block(
     rest: &[u8],
     ended: bool,
     max_body: u64,
-) -> Result<Told, AllocError>
+) -> Result<Step, AllocError>
     requires no_empty_line { blank_len block.now ≡ 0 }
     requires short { length block.now ≤ 16384 }
     requires fits { used + length rest.now < 2 ^ 64 }
-    ensures { IfOk result (λ told. told ≡ told_of from to true (spec.block_unit (checks.has_too_many_lines block.now) max_body used rest.now ended (head_of block.now))) }
+    ensures told { IfOk result (λ step. step.told ≡ told_of from to true (spec.block_unit (checks.has_too_many_lines block.now) max_body used rest.now ended (head_of block.now))) }
+    ensures progress { IfOk result (λ step. TellsBehind step.progress used (λ bytes. spec.block_unit (checks.has_too_many_lines block.now) max_body used bytes false (head_of block.now)) step.told.is_due) }
 {
     if has_too_many_lines(block) {
-        return Ok(Told::refused(431));
+        return Ok(Step::refused(431));
     }
     let mut headers = [EMPTY_HEADER_SPAN; FIELD_LIMIT];
     let Some(spans) = whole_head(block, &mut headers) else {
-        return Ok(Told::refused(400));
+        return Ok(Step::refused(400));
     };
     let request = request_of(alloc, from, to, block, &spans, &headers)?;
     match refusal_of(&request, max_body) {
-        Some(status) => Ok(Told::refused(status)),
-        None => read_content(alloc, request, used, rest, ended, max_body),
+        Some(status) => Ok(Step::refused(status)),
+        None => {
+            let progress = content_progress(used, max_body, request.fields.as_slice());
+            let told = read_content(alloc, request, used, rest, ended, max_body)?;
+            Ok(Step { told, progress })
+        }
     }
 }
 

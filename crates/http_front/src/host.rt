@@ -75,9 +75,11 @@ fn without_last(text: &[u8]) -> &[u8]
     }
 }
 
-fn lowercase(alloc: Global, text: &[u8]) -> Result<Bytes, AllocError>
+/// A text with its ASCII letters in lower case.
+pub(crate) fn lowercase(alloc: Global, text: &[u8]) -> Result<Bytes, AllocError>
     ensures { IfOk result (λ lower. lower ≡ lowercase text.now) }
 {
-    let lower = text.iter().map(|b| b.to_ascii_lowercase()).collect(alloc)?;
+    let mut lower = Vec::from_slice(alloc, text)?;
+    lower.as_mut_slice().make_ascii_lowercase();
     Ok(Bytes::of(lower))
 }

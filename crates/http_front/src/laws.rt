@@ -1,19 +1,37 @@
 //! What holds of every reading of a connection's bytes.
-ghost use Rattle.std.specs.Prelude.{◌≡◌, ◌≢◌, ◌<◌, ◌≤◌, ◌++◌, ◌↔◌, Bool, true, false, List, [], ℕ, length, Some, None};
+ghost use Rattle.std.specs.Prelude.{◌≡◌, ◌≢◌, ◌<◌, ◌≤◌, ◌++◌, ◌↔◌, Bool, true, false, List, [], ℕ, length, Some, None, IsTrue};
 ghost use Rattle.httparse.specs.Grammar.{ChunkLine, ReadsChunkLine, chunk_size};
 ghost use Rattle.http_front.specs.ChunkLine.{chunk_size_of};
-ghost use Rattle.http_front.specs.NextUnit.{next_unit, wait, bad};
-ghost use Rattle.http_front.specs.Reading.{used_by};
+ghost use Rattle.http_front.specs.declared.reader.Next.TheVariants as Answer;
+ghost use Rattle.http_front.specs.Front.{HeadBegun};
+ghost use Rattle.http_front.specs.Message.{Message};
+ghost use Rattle.http_front.specs.NextUnit.{next_unit, request, bad, finished, wait};
+ghost use Rattle.http_front.specs.Reading.{Reading, next_answer, next_reading};
 
-/// What is found at the front of the bytes stays however the input goes on, unless more bytes were needed to tell. After
-/// the end of the input no more bytes are needed. A request lies in the bytes that were given. A status that refuses the
-/// bytes has three digits.
+/// What is found at the front of the bytes stays however the input goes on, unless more bytes were needed to tell; behind
+/// a complete head so does whether `100 Continue` is due, which it isn't before. After the end of the input no more bytes
+/// are needed, and where it ended between requests nothing is due. A request lies in the bytes that were given, and has a
+/// byte at least. The bytes are refused with the status of an error.
 pub fn laws_of_units()
     ensures stays { (bytes more : List ℕ) (ended : Bool) (limit : ℕ) → ((next_unit bytes false limit).found ≢ wait)
         → next_unit (bytes ++ more) ended limit ≡ next_unit bytes false limit }
+    ensures begun { (bytes more : List ℕ) → HeadBegun bytes → HeadBegun (bytes ++ more) }
+    ensures due { (bytes more : List ℕ) (ended : Bool) (limit : ℕ) → HeadBegun bytes
+        → (next_unit (bytes ++ more) ended limit).continue_due ≡ (next_unit bytes false limit).continue_due }
+    ensures begins { (bytes : List ℕ) (ended : Bool) (limit : ℕ) → IsTrue (next_unit bytes ended limit).continue_due → HeadBegun bytes }
     ensures tells { (bytes : List ℕ) (limit : ℕ) → (next_unit bytes true limit).found ≢ wait }
-    ensures fits { (bytes : List ℕ) (ended : Bool) (limit : ℕ) → used_by (next_unit bytes ended limit).found ≤ length bytes }
-    ensures status { (bytes : List ℕ) (ended : Bool) (limit status : ℕ) → (next_unit bytes ended limit).found ≡ bad status → status < 1000 }
+    ensures over { (bytes : List ℕ) (ended : Bool) (limit : ℕ) → (next_unit bytes ended limit).found ≡ finished
+        → (next_unit bytes ended limit).continue_due ≡ false }
+    ensures fits { (bytes : List ℕ) (ended : Bool) (limit : ℕ) (m : Message) (used : ℕ) → (next_unit bytes ended limit).found ≡ request m used
+        → (0 < used) × (used ≤ length bytes) }
+    ensures status { (bytes : List ℕ) (ended : Bool) (limit status : ℕ) → (next_unit bytes ended limit).found ≡ bad status
+        → (400 ≤ status) × (status < 600) }
+{}
+
+/// What a reader answers: behind the end of the input it needs no more bytes, and `Continue` comes once for a request.
+pub fn laws_of_answers()
+    ensures needs { (r : Reading) (limit : ℕ) → r.ended ≡ true → next_answer r limit ≢ Answer.NeedMore }
+    ensures once { (r : Reading) (limit again : ℕ) → next_answer r limit ≡ Answer.Continue → next_answer (next_reading r limit) again ≢ Answer.Continue }
 {}
 
 /// The law of `chunk_size_of`: a line says a size exactly where the grammar of `httparse` has it as a line of that size.

@@ -12,15 +12,17 @@ mod head;
 mod host;
 mod laws;
 mod number;
+mod progress;
 mod reader;
 mod request;
+mod search;
 mod target;
 mod text;
 mod written;
 
 pub use closing::{is_head_request, is_last_request};
 pub use head::laws_of_heads;
-pub use laws::{laws_of_chunk_lines, laws_of_units};
+pub use laws::{laws_of_answers, laws_of_chunk_lines, laws_of_units};
 pub use reader::{Next, Reader};
 pub use written::{continue_reply, error_reply, write_http};
 

@@ -1,8 +1,10 @@
 //! The requests of a connection, read from its bytes in any pieces.
-ghost use Rattle.std.specs.Prelude.{◌≡◌, ◌++◌, ◌&&◌, not, [], true, false, IfOk, OnOk, OnErr};
+ghost use Rattle.std.specs.Prelude.{◌≡◌, ◌++◌, ◌&&◌, not, [], true, false, ℕ, IfOk, OnOk, OnErr, IsTrue};
+ghost use Rattle.http_front.specs.Progress.{Unchanged};
 ghost use Rattle.http_front.specs.Reading.{Reading, reading_of, limit_or, kept_limit, is_request, next_answer, next_reading};
 
 use crate::front::read_front;
+use crate::progress::{Progress, progress_over};
 use crate::text::behind;
 use std::alloc::{AllocError, Global};
 use std::marker::Model;
@@ -40,17 +42,19 @@ pub struct Reader {
     // of the request at the front: the limit of its content once its head is complete, and whether `Continue` was given
     limit: Option<u64>,
     is_told: bool,
+    progress: Progress,
 }
 
 impl Model for Reader {
     ghost use Rattle.std.specs.Prelude.{◌≤◌, length, drop};
     ghost use Rattle.http_front.specs.Reading.{Reading};
+    ghost use Rattle.http_front.specs.Progress.{Knows};
 
     ghost Value = { Reading };
 
     ghost view = { λ r. record { from = r.from; to = r.to; unread = drop r.used r.bytes.items; ended = r.ended; limit = r.limit; is_told = r.is_told } };
 
-    ghost invariant = { λ r. r.used ≤ length r.bytes.items };
+    ghost invariant = { λ r. (r.used ≤ length r.bytes.items) × Knows r.progress (drop r.used r.bytes.items) r.limit r.is_told };
 }
 
 impl Reader {
@@ -75,6 +79,7 @@ impl Reader {
             ended: false,
             limit: None,
             is_told: false,
+            progress: Progress::START,
         }
     }
 
@@ -118,20 +123,54 @@ impl Reader {
         ensures ok { OnOk result (self.new ≡ next_reading self.old max_body) }
         ensures err { OnErr result (self.new ≡ self.old) }
     {
+        if self.still_waits() {
+            Ok(Next::NeedMore)
+        } else {
+            self.read(alloc, max_body)
+        }
+    }
+
+    // whether more bytes are needed, as far as the progress so far tells
+    fn still_waits(&mut self) -> bool
+        ensures same { self.new ≡ self.old }
+        ensures waits { IsTrue result → (limit : ℕ) → Unchanged self.old limit }
+    {
+        if self.ended || self.progress == Progress::START {
+            return false;
+        }
+        match progress_over(self.progress, behind(&self.bytes, self.used)) {
+            Some(progress) => {
+                self.progress = progress;
+                true
+            }
+            None => false,
+        }
+    }
+
+    // the same as `next`, by all bytes anew
+    fn read(&mut self, alloc: Global, max_body: u64) -> Result<Next, AllocError>
+        ensures answer { IfOk result (λ answer. answer ≡ next_answer self.old max_body) }
+        ensures ok { OnOk result (self.new ≡ next_reading self.old max_body) }
+        ensures err { OnErr result (self.new ≡ self.old) }
+    {
         let limit = limit_or(self.limit, max_body);
         let unread = behind(&self.bytes, self.used);
-        let told = read_front(alloc, self.from, self.to, unread, self.ended, limit)?;
+        let step = read_front(alloc, self.from, self.to, unread, self.ended, limit)?;
+        let told = step.told;
         if asks_now(told.is_due, self.is_told) {
             self.limit = kept_limit(told.is_begun, self.limit, max_body);
             self.is_told = true;
+            self.progress = step.progress;
             return Ok(Next::Continue);
         }
         if is_request(&told.answer) {
             self.used += told.used;
             self.limit = None;
             self.is_told = false;
+            self.progress = Progress::START;
         } else {
             self.limit = kept_limit(told.is_begun, self.limit, max_body);
+            self.progress = step.progress;
         }
         Ok(told.answer)
     }

@@ -6,9 +6,8 @@ ghost use Rattle.http_front.specs.Head.{head_in};
 ghost use Rattle.http_front.specs.Text.{lowercase};
 ghost use Rattle.http_front.specs.Message as spec;
 
-use crate::host::host_of;
+use crate::host::{host_of, lowercase};
 use crate::target::{query_of, raw_path_of};
-use http_header::HeaderName;
 use httparse::spans::{HeaderSpan, RequestSpans};
 use path_normal::normal_path;
 use std::alloc::{AllocError, Global};
@@ -49,7 +48,7 @@ fn fields_of(alloc: Global, block: &[u8], headers: &[HeaderSpan]) -> Result<Fiel
     requires names { All (spec.HasFieldName block.now) headers.now }
     ensures { IfOk result (λ fields. fields ≡ map (spec.field_at block.now) headers.now) }
 {
-    let mut fields = Vec::new(alloc);
+    let mut fields = Vec::with_capacity(alloc, headers.len())?;
     for header in headers {
         fields.push(field_at(alloc, block, *header)?)?;
     }
@@ -72,8 +71,5 @@ fn lower_name(alloc: Global, name: &[u8]) -> Result<Bytes, AllocError>
     requires { IsFieldName name.now }
     ensures { IfOk result (λ lower. lower ≡ lowercase name.now) }
 {
-    match HeaderName::from_bytes(alloc, name) {
-        Ok(lower) => Bytes::copy_of(alloc, lower.as_bytes()),
-        Err(_) => Err(AllocError),
-    }
+    lowercase(alloc, name)
 }

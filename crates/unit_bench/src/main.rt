@@ -3,6 +3,7 @@
 #![tactic(auto)]
 
 mod grammars;
+mod heads;
 mod input;
 mod maps;
 mod records;
@@ -14,7 +15,7 @@ mod trees;
 use std::{env, io};
 
 const WORDS: &str =
-    "read-input normal-path matches expand write-record read-record trees ring-alone ring-shared claim check-trace";
+    "read-input normal-path matches expand write-record read-record trees ring-alone ring-shared claim check-trace next-head pipelined head-bytes chunk-bytes";
 
 fn run(rt: &HostRuntime, word: &str) -> io::Result<()> {
     match word {
@@ -36,6 +37,10 @@ fn main(rt: HostRuntime) -> io::Result<()> {
             "ring-shared" => rings::shared(&rt, rt.alloc()),
             "claim" => maps::claims(&rt, rt.alloc()),
             "check-trace" => traces::measure(&rt),
+            "next-head" => heads::head_ratio(&rt, rt.alloc()),
+            "pipelined" => heads::pipelined(&rt, rt.alloc()),
+            "head-bytes" => heads::head_bytes(&rt, rt.alloc()),
+            "chunk-bytes" => heads::chunk_bytes(&rt, rt.alloc()),
             word => run(&rt, word),
         },
         None => println!(rt; "{WORDS}"),

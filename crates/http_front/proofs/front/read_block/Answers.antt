@@ -1,25 +1,47 @@
-use Rattle.std.proofs.Common.{◌≡◌, ◌∙◌, ap, sym, subst, IfOk}
-use Rattle.http_front.specs.declared.front.Told.{Told}
+use Rattle.std.proofs.Common.{◌≡◌, ◌≤◌, ◌∙◌, ap, sym, subst, List, false}
+use Rattle.unit_types.specs.declared.field.Field.{Field}
+use Rattle.http_front.specs.declared.progress.Progress.{Progress}
+use Rattle.http_front.specs.declared.progress.Progress.TheVariants.{Content}
 use Rattle.http_front.specs.Head.{head_of, head_in}
-use Rattle.http_front.specs.Checks.{has_too_many_lines, refusal_of}
-use Rattle.http_front.specs.Content.{content_of}
+use Rattle.http_front.specs.Message.{fields_of}
+use Rattle.http_front.specs.Checks.{has_too_many_lines, content_length, refusal_of}
+use Rattle.http_front.specs.Content.{content_of, is_continue_due}
+use Rattle.http_front.specs.NextUnit.{block_unit}
+use Rattle.http_front.specs.Progress.{framing_of, TellsBehind}
 use Rattle.http_front.specs.Reading.{told_request}
 use Rattle.http_front.proofs.FrontLemmas.{told_refused, told_served}
+use Rattle.http_front.proofs.ProgressLemmas.{length_within, tells_behind}
 use Rattle.http_front.proofs.front.read_block.Goals as goal
 
-pub returns-in-Some-refusal_of : goal.returns-in-Some-refusal_of
-returns-in-Some-refusal_of c =
+pub returns-in-Some-refusal_of-clause-told : goal.returns-in-Some-refusal_of-clause-told
+returns-in-Some-refusal_of-clause-told c =
     let same = c.in_ok-request.ensures in
-    c.refused-in-Some-refusal_of.ensures
+    ap (λ step. step.told) c.refused-in-Some-refusal_of.ensures
     ∙ told_refused c.args.from c.args.to (has_too_many_lines c.args.block.now) c.args.max_body c.args.used c.args.rest.now c.args.ended (head_of c.args.block.now)
     (head_in c.args.block.now) c.in-Some-refusal_of.status (sym c.has_too_many_lines.ensures ∙ c.if-has_too_many_lines.false) c.in-Some.ensures.is
     (sym (c.refusal_of.ensures ∙ ap (λ r. refusal_of c.args.max_body r.minor r.target r.fields) same) ∙ c.in-Some-refusal_of.is)
 
-pub returns-in-None : goal.returns-in-None
-returns-in-None c =
+pub returns-in_ok-told-in-None-clause-told : goal.returns-in_ok-told-in-None-clause-told
+returns-in_ok-told-in-None-clause-told c =
     let same = c.in_ok-request.ensures in
-    let told = ap (λ r. told_request r c.args.used c.args.ended (content_of c.args.max_body r.fields c.args.rest.now)) same
+    c.in_ok-told-in-None.ensures
+    ∙ ap (λ r. told_request r c.args.used c.args.ended (content_of c.args.max_body r.fields c.args.rest.now)) same
     ∙ told_served c.args.from c.args.to (has_too_many_lines c.args.block.now) c.args.max_body c.args.used c.args.rest.now c.args.ended (head_of c.args.block.now)
     (head_in c.args.block.now) (sym c.has_too_many_lines.ensures ∙ c.if-has_too_many_lines.false) c.in-Some.ensures.is
-    (sym (c.refusal_of.ensures ∙ ap (λ r. refusal_of c.args.max_body r.minor r.target r.fields) same) ∙ c.in-None.is) in
-    subst (λ (t : Told). IfOk c.read_content.result (λ told. told ≡ t)) told c.read_content.ensures
+    (sym (c.refusal_of.ensures ∙ ap (λ r. refusal_of c.args.max_body r.minor r.target r.fields) same) ∙ c.in-None.is)
+
+pub returns-in_ok-told-in-None-clause-progress : goal.returns-in_ok-told-in-None-clause-progress
+returns-in_ok-told-in-None-clause-progress c =
+    let same = c.in_ok-request.ensures in
+    let head = head_in c.args.block.now in
+    let fields = c.as_slice.ensures ∙ ap (λ r. r.fields) same in
+    let serves = sym (c.refusal_of.ensures ∙ ap (λ r. refusal_of c.args.max_body r.minor r.target r.fields) same) ∙ c.in-None.is in
+    let low = length_within c.args.max_body head.minor head.target (fields_of head) serves in
+    let progress = c.content_progress-progress.ensures (subst (λ (fs : List Field). content_length fs ≤ c.args.max_body) (sym fields) low)
+    ∙ ap (λ fs. Content c.args.used (framing_of c.args.max_body fs)) fields in
+    let due = ap (λ t. t.is_due) (c.in_ok-told-in-None.ensures ∙ ap (λ r. told_request r c.args.used c.args.ended (content_of c.args.max_body r.fields c.args.rest.now)) same) in
+    let is_due : c.in_ok-told-in-None.told.is_due ≡ is_continue_due head.minor (fields_of head) = due in
+    subst (λ (p : Progress). TellsBehind p c.args.used (λ bytes. block_unit (has_too_many_lines c.args.block.now) c.args.max_body c.args.used bytes false (head_of c.args.block.now)) c.in_ok-told-in-None.told.is_due)
+    (sym progress)
+    (tells_behind (has_too_many_lines c.args.block.now) c.args.max_body c.args.used (head_of c.args.block.now) head c.in_ok-told-in-None.told.is_due
+    (sym c.has_too_many_lines.ensures ∙ c.if-has_too_many_lines.false) c.in-Some.ensures.is serves is_due)
