@@ -8,7 +8,8 @@ use Rattle.std.specs.List.{flat_map}
 use Rattle.std.specs.Ordering.{nat_cmp, match_ordering}
 use Rattle.serde_json.specs.Data.{Num, unsigned, negative, float, Data, null, boolean, number, string, array, object, Items, no_items, item, Members, no_members, member}
 use Rattle.serde_json.specs.Find.{get, get_member}
-use Rattle.conf_validate.specs.Configuration.{items_list, items_of, number_in, part, text_in, values_list}
+use Rattle.conf_tree.specs.View.{Named}
+use Rattle.conf_validate.specs.Configuration.{items_list, items_of, members_list, number_in, part, text_in, values_list}
 use Rattle.conf_validate.specs.Forms.{has_form, is_again, is_target_name}
 use Rattle.conf_validate.specs.Table.{Entry, entries_of, place_among, row_of, whole_table}
 use Rattle.conf_validate.specs.Valid.{Context, below, broken, broken_if, for_some, has_handler, has_required, is_choice_at, is_in_range, items_fault, members_fault, or_then, place_if, place_of, text_fault, value_fault}
@@ -84,6 +85,10 @@ pub part_clean : (c : Context) (p q : Place) (k : List ℕ) (o : Option Data) �
 part_clean c p q k None row at h = λ e m. absurd (cc m)
 part_clean c p q k (Some d) row at h = get_clean c p q k d row at (h d refl)
 
+-- what is there and breaks no rule
+pub clean_some : (c : Context) (p : Place) (d : Data) → NoFault c p d → IsClean c p (Some d)
+clean_some c p d h = λ e same. subst (λ (y : Data). NoFault c p y) (some_same d e same) h
+
 -- ---- numbers and texts
 
 and_left : (a b : Bool) → (a && b) ≡ true → a ≡ true
@@ -140,6 +145,9 @@ handler_kept c f s h = not_broken (has_handler c f s) 8 (or_right _ _ (or_right 
 
 -- ---- items and values
 
+pub all_weaker : {A : Type 0} {P Q : A → Type 0} (xs : List A) → ((x : A) → P x → Q x) → All P xs → All Q xs
+all_weaker xs f h = λ k d lt. f _ (h k d lt)
+
 pub items_clean : (c : Context) (q : Place) (i : ℕ) (ds : Items) → items_fault whole_table c q i ds ≡ None → All (NoFault c q) (items_list ds)
 items_clean c q i no_items h = All-nil (NoFault c q)
 items_clean c q i (item d ds) h = All-cons (NoFault c q) d (items_list ds) (below_none (decimal i) (value_fault whole_table c q d) (or_left _ (items_fault whole_table c q (i + 1) ds) h)) (items_clean c q (i + 1) ds (or_right (below (decimal i) (value_fault whole_table c q d)) _ h))
@@ -163,6 +171,12 @@ pub values_clean : (c : Context) (es : List Entry) (q : Place) (earlier : List (
 values_clean c es q earlier no_members h = All-nil (NoFault c q)
 values_clean c es q earlier (member k d ms) h =
     All-cons (NoFault c q) d (values_list ms) (placed c (is_target_name k) q d (below_none k _ (or_left _ _ h))) (values_clean c es q (earlier ++ k ∷ []) ms (or_right _ _ h))
+
+-- the values of members whose places are this one
+pub members_clean : (c : Context) (es : List Entry) (ns : Names) (q : Place) → ((again : Bool) (k : List ℕ) (d : Data) → found c es ns again k d ≡ None → NoFault c q d) → (earlier : List (List ℕ)) (ms : Members) → members_fault whole_table c es ns earlier ms ≡ None → All (λ m. NoFault c q m.1) (members_list ms)
+members_clean c es ns q f earlier no_members h = All-nil (λ (m : Named). NoFault c q m.1)
+members_clean c es ns q f earlier (member k d ms) h =
+    All-cons (λ (m : Named). NoFault c q m.1) (k, d) (members_list ms) (f (is_again earlier k) k d (below_none k _ (or_left _ _ h))) (members_clean c es ns q f (earlier ++ k ∷ []) ms (or_right _ _ h))
 
 pub flat_clean : (c : Context) (p q : Place) (ds : List Data) → (row_of p).items ≡ Some q → All (NoFault c p) ds → All (NoFault c q) (flat_map items_of ds)
 flat_clean c p q [] row h = All-nil (NoFault c q)

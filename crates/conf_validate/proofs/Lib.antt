@@ -5,4 +5,6 @@ mod LowerLemmas
 mod SearchLemmas
 mod CompileLemmas
 mod CleanLemmas
+mod MatchLemmas
+mod DestinationLemmas
 mod KeptLemmas
