@@ -181,8 +181,8 @@ all_routes_there conf (Some (boolean b)) h = All-nil (LeadsThere conf)
 all_routes_there conf (Some (number n)) h = All-nil (LeadsThere conf)
 all_routes_there conf (Some (string s)) h = All-nil (LeadsThere conf)
 all_routes_there conf (Some (array ds)) h =
-    All-cons (LeadsThere conf) (record { name = codes "routes"; goal = goal.Route 0 (length (items_list ds)) }) [] h (All-nil (LeadsThere conf))
-all_routes_there conf (Some (object ms)) h = routes_there conf 0 ms h
+    All-cons (LeadsThere conf) (record { name = codes "routes"; goal = goal.Route 0 (length (items_list ds)) }) [] (omega (arith, h)) (All-nil (LeadsThere conf))
+all_routes_there conf (Some (object ms)) h = routes_there conf 0 ms (omega (arith, h))
 
 pub destinations_there : (document : Data) → All (λ d. IsThere (configuration_of document) d.goal) (destinations_of document)
 destinations_there document =

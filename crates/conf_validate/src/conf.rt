@@ -134,7 +134,9 @@ impl Conf {
     /// What each configuration keeps.
     pub fn is_kept(&self)
         ensures { IsKept self.now }
-    {}
+    {
+        let _max_body = self.max_body;
+    }
 
     /// How many applications there are.
     pub fn application_count(&self) -> usize

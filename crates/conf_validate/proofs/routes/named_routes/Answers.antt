@@ -21,8 +21,8 @@ pub loop-index-init : goal.loop-index-init
 loop-index-init c =
     let ms = map_data c.args.members.now in
     record {
-      steps = ap (λ (xs : List Step). xs ++ steps_in (values_list (behind 0 ms))) c.new-steps.ensures ∙ ap (λ m. steps_in (values_list m)) (behind-zero ms);
-      destinations = ap (λ (xs : List Step). c.args.destinations.now.items ++ route_destinations (length xs) (members_list (behind 0 ms))) c.new-steps.ensures ∙ ap (λ m. c.args.destinations.now.items ++ route_destinations 0 (members_list m)) (behind-zero ms);
+      steps = ap (λ (xs : List Step). xs ++ steps_in (values_list (behind 0 ms))) c.new-steps.ensures.items ∙ ap (λ m. steps_in (values_list m)) (behind-zero ms);
+      destinations = ap (λ (xs : List Step). c.args.destinations.now.items ++ route_destinations (length xs) (members_list (behind 0 ms))) c.new-steps.ensures.items ∙ ap (λ m. c.args.destinations.now.items ++ route_destinations 0 (members_list m)) (behind-zero ms);
     }
 
 pub push_named-requires : goal.push_named-requires
