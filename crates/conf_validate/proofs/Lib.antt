@@ -5,3 +5,4 @@ mod LowerLemmas
 mod CompileLemmas
 mod CleanLemmas
 mod KeptLemmas
+mod PlainLemmas

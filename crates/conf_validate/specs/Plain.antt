@@ -73,7 +73,7 @@ plain_entries_of place.Http = optional (codes "max_body_size") place.MaxBodySize
 plain_entries_of other = []
 
 -- rule 5: a pass is any text, and a location has no CR, LF or NUL
-unfoldable pub plain_form : Form → List ℕ → Bool
+abbrev pub plain_form : Form → List ℕ → Bool
 plain_form form.TextPattern text = is_text_pattern text
 plain_form form.AddressPattern text = is_address_pattern text
 plain_form form.Pass text = true

@@ -5,6 +5,7 @@ mod compile;
 mod conf;
 mod fault;
 mod forms;
+mod laws;
 mod lower;
 mod matching;
 mod members;
@@ -20,6 +21,7 @@ mod walk;
 
 pub use conf::{Application, Changes, Conf, Step};
 pub use fault::{ConfFault, Invalid};
+pub use laws::plain_documents_keep_the_plain_rules;
 pub use matching::{Match, NamedPatterns, NamedSet, NamedSets};
 pub use validation::validate;
 pub use walk::first_fault;
