@@ -6,3 +6,4 @@ mod CompileLemmas
 mod CleanLemmas
 mod KeptLemmas
 mod PlainLemmas
+pub mod PlainPassLemmas

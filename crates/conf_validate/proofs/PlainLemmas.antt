@@ -18,9 +18,9 @@ use Rattle.conf_tree.specs.Document.{AreDocuments, AreMembers, ComeAfter, IsDocu
 use Rattle.path_normal.proofs.PieceLemmas.{pieces_at_byte}
 use Rattle.path_normal.specs.Variables.{known_among, variable_count}
 use Rattle.conf_validate.specs.Choices.{has, is_choice, is_one}
-use Rattle.conf_validate.specs.Configuration.{items_list, items_of, list_in, part, steps_of_routes, text_in, values_list, values_of}
+use Rattle.conf_validate.specs.Configuration.{items_list, items_of, list_in, part, steps_of_routes, text_in, values_list}
 use Rattle.conf_validate.specs.Forms.{has_form, has_variables, is_again, is_at_most, is_in_line, is_listener_name, is_target_name}
-use Rattle.conf_validate.specs.Plain.{HasNoDollar, IsPlain, IsPlainAction, IsPlainListener, IsPlainStep, plain_choice, plain_entries_of, plain_form, plain_row_of, plain_table}
+use Rattle.conf_validate.specs.Plain.{HasNoDollar, IsPlain, IsPlainAction, IsPlainListener, IsPlainStep, member_values, plain_choice, plain_entries_of, plain_form, plain_row_of, plain_table}
 use Rattle.conf_validate.specs.Table.{Entry, entries_of, place_among, row_of, whole_table}
 use Rattle.conf_validate.specs.Targets.{is_pass, is_target, may_be_target}
 use Rattle.conf_validate.specs.Valid.{Context, below, broken, broken_if, fault_by, fault_of, for_some, has_handler, has_required, has_target, is_choice_at, is_in_range, items_fault, members_fault, or_then, place_if, place_of, text_fault, value_fault}
@@ -38,7 +38,7 @@ use Rattle.conf_validate.proofs.MemberLemmas.{same_key}
 
 abbrev IsPlainAt : Place → Data → Type 0
 IsPlainAt place.Whole d = IsPlain d
-IsPlainAt place.Listeners d = All IsPlainListener (values_of d)
+IsPlainAt place.Listeners d = All IsPlainListener (member_values d)
 IsPlainAt place.Listener d = IsPlainListener d
 IsPlainAt place.Routes d = All IsPlainStep (steps_of_routes d)
 IsPlainAt place.Steps d = All IsPlainStep (items_of d)
@@ -231,7 +231,7 @@ whole_placed : (ms : Members) (k : List ℕ) (d : Data) → IsPlain (object ms) 
 unfolding entries_of
 whole_placed ms k d h at =
     (
-        λ e. subst (λ (o : Option Data). All IsPlainListener (list_in values_of o)) (named_so k (codes "listeners") ms d at e) h.listeners,
+        λ e. subst (λ (o : Option Data). All IsPlainListener (list_in member_values o)) (named_so k (codes "listeners") ms d at e) h.listeners,
         (
             λ e. subst (λ (o : Option Data). All IsPlainStep (list_in steps_of_routes o)) (named_so k (codes "routes") ms d at e) h.steps,
             (λ e. tt, (λ e. tt, (not_there k (codes "access_log") ms d at h.access_log, tt)))

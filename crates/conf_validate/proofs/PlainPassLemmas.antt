@@ -1,0 +1,230 @@
+-- In a valid plain document each pass leads to steps or to an application that are there.
+use Rattle.std.proofs.Common.{◌≡◌, ◌∙◌, ℕ, Bool, true, false, not, ◌&&◌, ◌||◌, List, [], ◌∷◌, ◌++◌, drop, take, length, codes, Option, Some, None, IfSome, IsTrue, All, Ordering, Less, Equal, Greater, refl, sym, ap, subst, arith, eqb}
+use Rattle.std.proofs.lemmas.Bool.{and_parts}
+use Rattle.std.proofs.lemmas.List.Elements.{All-append, All-cons, All-contains, All-contains_itself, All-head, All-nil, All-tail, All-weaker, Contains-append_left, Contains-append_right}
+use Rattle.std.proofs.lemmas.Slice.Eq.{bytes_eq-Decides, starts_is}
+use Rattle.std.specs.Bool.{Decides}
+use Rattle.std.specs.Cmp.Lexicographic.{slice_cmp}
+use Rattle.std.specs.List.{Contains, flat_map, list_any, starts_with}
+use Rattle.std.specs.Option.{is_some, option_to_list}
+use Rattle.std.specs.Ordering.{nat_cmp, match_ordering}
+use Rattle.std.specs.Prelude.{nat_eq}
+use Rattle.std.specs.Str.{bytes_eq}
+use Rattle.serde_json.specs.Data.{Data, null, boolean, number, string, array, object, Items, Members, no_members, member}
+use Rattle.serde_json.specs.Find.{get, get_member}
+use Rattle.conf_validate.specs.Choices.{has}
+use Rattle.conf_validate.specs.Configuration.{items_list, items_of, list_in, part, steps_of_routes, text_in, values_list}
+use Rattle.conf_validate.specs.Forms.{is_listener_name}
+use Rattle.conf_validate.specs.Plain.{Finds, the_routes, a_route, an_application, HasNoDollar, IsApplication, IsPlain, IsPlainAction, IsPlainListener, IsPlainStep, IsStep, Leads, to_routes, to_route, to_application, applications_in, listeners_in, member_values, pass_of, passes_of, steps_in}
+use Rattle.conf_validate.specs.Table.{Entry, entries_of, place_among, row_of, whole_table}
+use Rattle.conf_validate.specs.Targets.{has_member, is_array, is_pass, is_target}
+use Rattle.conf_validate.specs.Valid.{Context, broken_if, fault_of, for_some, has_required, is_choice_at, members_fault, or_then, text_fault, value_fault}
+use Rattle.conf_validate.specs.declared.place.Form.TheVariants as form
+use Rattle.conf_validate.specs.declared.place.Names.{Names}
+use Rattle.conf_validate.specs.declared.place.Names.TheVariants as names
+use Rattle.conf_validate.specs.declared.place.Place.{Place}
+use Rattle.conf_validate.specs.declared.place.Place.TheVariants as place
+use Rattle.conf_validate.proofs.CleanLemmas.{IsClean, NoFault, array_clean, below_none, flat_clean, get_clean, handler_kept, object_clean, or_left, or_right, part_clean, placed, text_kept, values_clean}
+use Rattle.conf_validate.proofs.PlainLemmas.{pass_same}
+use Rattle.conf_validate.proofs.WalkLemmas.{object_walk}
+
+-- ---- the rows that are used
+
+fixed-Whole : (row_of place.Whole).members ≡ Some names.Fixed
+unfolding row_of
+fixed-Whole = refl
+
+fixed-Listener : (row_of place.Listener).members ≡ Some names.Fixed
+unfolding row_of
+fixed-Listener = refl
+
+fixed-Step : (row_of place.Step).members ≡ Some names.Fixed
+unfolding row_of
+fixed-Step = refl
+
+fixed-Action : (row_of place.Action).members ≡ Some names.Fixed
+unfolding row_of
+fixed-Action = refl
+
+fixed-Application : (row_of place.Application).members ≡ Some names.Fixed
+unfolding row_of
+fixed-Application = refl
+
+members-Listeners : (row_of place.Listeners).members ≡ Some (names.Listener place.Listener)
+unfolding row_of
+members-Listeners = refl
+
+members-Routes : (row_of place.Routes).members ≡ Some (names.Target place.Steps)
+unfolding row_of
+members-Routes = refl
+
+members-Applications : (row_of place.Applications).members ≡ Some (names.Target place.Application)
+unfolding row_of
+members-Applications = refl
+
+items-Routes : (row_of place.Routes).items ≡ Some place.Step
+unfolding row_of
+items-Routes = refl
+
+items-Steps : (row_of place.Steps).items ≡ Some place.Step
+unfolding row_of
+items-Steps = refl
+
+text-Pass : (row_of place.Pass).text ≡ Some form.Pass
+unfolding row_of
+text-Pass = refl
+
+text-Executable : (row_of place.Executable).text ≡ Some form.Handler
+unfolding row_of
+text-Executable = refl
+
+at-Whole-listeners : place_among (codes "listeners") (entries_of place.Whole) ≡ Some place.Listeners
+unfolding entries_of
+at-Whole-listeners = refl
+
+at-Whole-routes : place_among (codes "routes") (entries_of place.Whole) ≡ Some place.Routes
+unfolding entries_of
+at-Whole-routes = refl
+
+at-Whole-applications : place_among (codes "applications") (entries_of place.Whole) ≡ Some place.Applications
+unfolding entries_of
+at-Whole-applications = refl
+
+at-Listener-pass : place_among (codes "pass") (entries_of place.Listener) ≡ Some place.Pass
+unfolding entries_of
+at-Listener-pass = refl
+
+at-Step-action : place_among (codes "action") (entries_of place.Step) ≡ Some place.Action
+unfolding entries_of
+at-Step-action = refl
+
+at-Action-pass : place_among (codes "pass") (entries_of place.Action) ≡ Some place.Pass
+unfolding entries_of
+at-Action-pass = refl
+
+at-Application-executable : place_among (codes "executable") (entries_of place.Application) ≡ Some place.Executable
+unfolding entries_of
+at-Application-executable = refl
+
+-- ---- the targets that are found
+
+or_case : {P : Type 0} (a b : Bool) → (a || b) ≡ true → (a ≡ true → P) → (b ≡ true → P) → P
+or_case true b h f g = f refl
+or_case false b h f g = g h
+
+is_array_some : (o : Option Data) → is_array o ≡ true → (ds : Items) × (o ≡ Some (array ds))
+is_array_some None h = absurd (cc h)
+is_array_some (Some null) h = absurd (cc h)
+is_array_some (Some (boolean b)) h = absurd (cc h)
+is_array_some (Some (number n)) h = absurd (cc h)
+is_array_some (Some (string s)) h = absurd (cc h)
+is_array_some (Some (array ds)) h = (ds, refl)
+is_array_some (Some (object ms)) h = absurd (cc h)
+
+is_some_value : (o : Option Data) → is_some o ≡ true → (d : Data) × (o ≡ Some d)
+is_some_value None h = absurd (cc h)
+is_some_value (Some d) h = (d, refl)
+
+has_member_part : (name : List ℕ) (o : Option Data) → has_member name o ≡ true → (d : Data) × (part name o ≡ Some d)
+has_member_part name None h = absurd (cc h)
+has_member_part name (Some r) h = is_some_value (get name r) h
+
+same_number : (a b : ℕ) → Decides (nat_eq a b) (a ≡ b)
+same_number a b = ?
+
+begins : (s prefix : List ℕ) → starts_with nat_eq s prefix ≡ true → s ≡ prefix ++ drop (length prefix) s
+begins s prefix h = (starts_is same_number s prefix (starts_with nat_eq s prefix) refl).0 h
+
+pub finds : (document : Data) (s : List ℕ) → is_target document s ≡ true → Finds document s
+finds document s h =
+    or_case (is_routes || is_route) is_application h
+    (λ routes.
+    or_case is_routes is_route routes
+    (λ all.
+    let both = and_parts (bytes_eq s (codes "routes")) (is_array (get (codes "routes") document)) all in
+    let found = is_array_some (get (codes "routes") document) both.1 in
+    the_routes found.0 ((bytes_eq-Decides s (codes "routes")).0 both.0) found.1)
+    (λ one.
+    let both = and_parts (starts_with nat_eq s (codes "routes/")) (has_member (drop 7 s) (get (codes "routes") document)) one in
+    let found = has_member_part (drop 7 s) (get (codes "routes") document) both.1 in
+    a_route (drop 7 s) found.0 (begins s (codes "routes/") both.0) found.1))
+    (λ one.
+    let both = and_parts (starts_with nat_eq s (codes "applications/")) (has_member (drop 13 s) (get (codes "applications") document)) one in
+    let found = has_member_part (drop 13 s) (get (codes "applications") document) both.1 in
+    an_application (drop 13 s) found.0 (begins s (codes "applications/") both.0) found.1)
+  where
+    is_routes : Bool
+    is_routes = bytes_eq s (codes "routes") && is_array (get (codes "routes") document)
+    is_route : Bool
+    is_route = starts_with nat_eq s (codes "routes/") && has_member (drop 7 s) (get (codes "routes") document)
+    is_application : Bool
+    is_application = starts_with nat_eq s (codes "applications/") && has_member (drop 13 s) (get (codes "applications") document)
+
+-- ---- the passes of a valid document
+
+not_broken : (b : Bool) (rule : ℕ) → broken_if (not b) rule ≡ None → b ≡ true
+not_broken true rule h = refl
+not_broken false rule h = absurd (cc h)
+
+abbrev IsGood : Data → List ℕ → Type 0
+IsGood document s = is_pass document s ≡ true
+
+pass_kept : (c : Context) (s : List ℕ) → text_fault whole_table c form.Pass s ≡ None → IsGood c.document s
+pass_kept c s h = not_broken (is_pass c.document s) 7 (or_left _ _ (or_right _ _ h))
+
+listener_values : (c : Context) (es : List Entry) (q : Place) (earlier : List (List ℕ)) (ms : Members) → members_fault whole_table c es (names.Listener q) earlier ms ≡ None → All (NoFault c q) (values_list ms)
+listener_values c es q earlier no_members h = All-nil (NoFault c q)
+listener_values c es q earlier (member k d ms) h =
+    All-cons (NoFault c q) d (values_list ms) (placed c (is_listener_name k) q d (below_none k _ (or_left _ _ h))) (listener_values c es q (earlier ++ k ∷ []) ms (or_right _ _ h))
+
+listeners_clean : (c : Context) (o : Option Data) → IsClean c place.Listeners o → All (NoFault c place.Listener) (list_in member_values o)
+listeners_clean c None h = All-nil (NoFault c place.Listener)
+listeners_clean c (Some null) h = All-nil (NoFault c place.Listener)
+listeners_clean c (Some (boolean b)) h = All-nil (NoFault c place.Listener)
+listeners_clean c (Some (number n)) h = All-nil (NoFault c place.Listener)
+listeners_clean c (Some (string s)) h = All-nil (NoFault c place.Listener)
+listeners_clean c (Some (array ds)) h = All-nil (NoFault c place.Listener)
+listeners_clean c (Some (object ms)) h =
+    listener_values c (entries_of place.Listeners) place.Listener [] ms (object_clean c place.Listeners (names.Listener place.Listener) ms members-Listeners (h (object ms) refl))
+
+routes_clean : (c : Context) (o : Option Data) → IsClean c place.Routes o → All (NoFault c place.Step) (list_in steps_of_routes o)
+routes_clean c None h = All-nil (NoFault c place.Step)
+routes_clean c (Some null) h = All-nil (NoFault c place.Step)
+routes_clean c (Some (boolean b)) h = All-nil (NoFault c place.Step)
+routes_clean c (Some (number n)) h = All-nil (NoFault c place.Step)
+routes_clean c (Some (string s)) h = All-nil (NoFault c place.Step)
+routes_clean c (Some (array ds)) h = array_clean c place.Routes place.Step ds items-Routes (h (array ds) refl)
+routes_clean c (Some (object ms)) h =
+    flat_clean c place.Steps place.Step (values_list ms) items-Steps (values_clean c (entries_of place.Routes) place.Steps [] ms (object_clean c place.Routes (names.Target place.Steps) ms members-Routes (h (object ms) refl)))
+
+listener_good : (c : Context) (d : Data) → NoFault c place.Listener d → IfSome (text_in (get (codes "pass") d)) (IsGood c.document)
+listener_good c d h =
+    text_kept (IsGood c.document) c place.Pass form.Pass (get (codes "pass") d) text-Pass (pass_kept c) (get_clean c place.Listener place.Pass (codes "pass") d fixed-Listener at-Listener-pass h)
+
+step_good : (c : Context) (d : Data) → NoFault c place.Step d → IfSome (text_in (part (codes "pass") (get (codes "action") d))) (IsGood c.document)
+step_good c d h =
+    text_kept (IsGood c.document) c place.Pass form.Pass (part (codes "pass") (get (codes "action") d)) text-Pass (pass_kept c) (part_clean c place.Action place.Pass (codes "pass") (get (codes "action") d) fixed-Action at-Action-pass (get_clean c place.Step place.Action (codes "action") d fixed-Step at-Step-action h))
+
+-- ---- the passes of a valid plain document
+
+found_in : (document : Data) (o : Option (List ℕ)) → IfSome o (IsGood document) → IfSome o HasNoDollar → All (Finds document) (option_to_list o)
+found_in document None h g = All-nil (Finds document)
+found_in document (Some s) h g =
+    All-cons (Finds document) s [] (finds document s (sym (pass_same document s g) ∙ h)) (All-nil (Finds document))
+
+all_flat : (P : List ℕ → Type 0) (f : Data → List (List ℕ)) (ds : List Data) → All (λ d. All P (f d)) ds → All P (flat_map f ds)
+all_flat P f [] h = All-nil P
+all_flat P f (d ∷ ds) h = All-append P (f d) (flat_map f ds) (All-head (λ e. All P (f e)) d ds h) (all_flat P f ds (All-tail (λ e. All P (f e)) d ds h))
+
+abbrev context : Data → List (List ℕ) → Context
+context document handlers = record { document = document; handlers = handlers }
+
+-- each pass of a listener or of a step's action names something that is there
+pub passes_find : (document : Data) (handlers : List (List ℕ)) → IsPlain document → fault_of document handlers ≡ None → All (Finds document) (passes_of document)
+passes_find document handlers plain h =
+    let c = context document handlers in
+    let listeners = listeners_clean c (get (codes "listeners") document) (get_clean c place.Whole place.Listeners (codes "listeners") document fixed-Whole at-Whole-listeners h) in
+    let steps = routes_clean c (get (codes "routes") document) (get_clean c place.Whole place.Routes (codes "routes") document fixed-Whole at-Whole-routes h) in
+    All-append (Finds document) (flat_map (λ listener. pass_of (Some listener)) (listeners_in document)) (flat_map (λ step. pass_of (get (codes "action") step)) (steps_in document))
+    (all_flat (Finds document) (λ listener. pass_of (Some listener)) (listeners_in document) (λ k d lt. found_in document _ (listener_good c _ (listeners k d lt)) (plain.listeners k d lt)))
+    (all_flat (Finds document) (λ step. pass_of (get (codes "action") step)) (steps_in document) (λ k d lt. found_in document _ (step_good c _ (steps k d lt)) (plain.steps k d lt).pass))
