@@ -12,13 +12,13 @@ use Rattle.std.specs.Option.{is_some}
 use Rattle.std.specs.Ordering.{nat_cmp, match_ordering, ordering_reverse}
 use Rattle.std.specs.Prelude.{⊤}
 use Rattle.std.specs.Str.{bytes_eq}
-use Rattle.serde_json.specs.Data.{Num, Data, null, boolean, number, string, array, object, Items, no_items, item, Members, no_members, member}
-use Rattle.serde_json.specs.Find.{as_str, get, get_member}
+use Rattle.serde_json.specs.Data.{Data, null, boolean, number, string, array, object, Items, no_items, item, Members, no_members, member}
+use Rattle.serde_json.specs.Find.{as_str, get_member}
 use Rattle.conf_tree.specs.Document.{AreDocuments, AreMembers, ComeAfter, IsDocument}
 use Rattle.path_normal.proofs.PieceLemmas.{pieces_at_byte}
 use Rattle.path_normal.specs.Variables.{known_among, variable_count}
-use Rattle.conf_validate.specs.Choices.{has, is_choice, is_one}
-use Rattle.conf_validate.specs.Configuration.{items_list, items_of, list_in, part, steps_of_routes, text_in, values_list}
+use Rattle.conf_validate.specs.Choices.{has}
+use Rattle.conf_validate.specs.Configuration.{items_list, items_of, list_in, steps_of_routes, text_in, values_list}
 use Rattle.conf_validate.specs.Forms.{has_form, has_variables, is_again, is_at_most, is_in_line, is_listener_name, is_target_name}
 use Rattle.conf_validate.specs.Plain.{HasNoDollar, IsPlain, IsPlainAction, IsPlainListener, IsPlainStep, member_values, plain_choice, plain_entries_of, plain_form, plain_row_of, plain_table}
 use Rattle.conf_validate.specs.Table.{Entry, entries_of, place_among, row_of, whole_table}

@@ -1,9 +1,9 @@
 -- In a valid plain document each pass leads to steps or to an application that are there.
 use Rattle.std.proofs.Common.{◌≡◌, ◌∙◌, ℕ, Bool, true, false, not, ◌&&◌, ◌||◌, List, [], ◌∷◌, ◌++◌, drop, take, length, codes, Option, Some, None, IfSome, IsTrue, All, Ordering, Less, Equal, Greater, refl, sym, ap, subst, arith, eqb}
 use Rattle.std.proofs.lemmas.Bool.{and_parts}
+use Rattle.std.proofs.lemmas.Bool.Decides.{Decides-eqb}
 use Rattle.std.proofs.lemmas.List.Elements.{All-append, All-cons, All-contains, All-contains_itself, All-head, All-nil, All-tail, All-weaker, Contains-append_left, Contains-append_right}
 use Rattle.std.proofs.lemmas.Slice.Eq.{bytes_eq-Decides, starts_is}
-use Rattle.std.specs.Bool.{Decides}
 use Rattle.std.specs.Cmp.Lexicographic.{slice_cmp}
 use Rattle.std.specs.List.{Contains, flat_map, list_any, starts_with}
 use Rattle.std.specs.Option.{is_some, option_to_list}
@@ -129,11 +129,8 @@ has_member_part : (name : List ℕ) (o : Option Data) → has_member name o ≡ 
 has_member_part name None h = absurd (cc h)
 has_member_part name (Some r) h = is_some_value (get name r) h
 
-same_number : (a b : ℕ) → Decides (nat_eq a b) (a ≡ b)
-same_number a b = ?
-
 begins : (s prefix : List ℕ) → starts_with nat_eq s prefix ≡ true → s ≡ prefix ++ drop (length prefix) s
-begins s prefix h = (starts_is same_number s prefix (starts_with nat_eq s prefix) refl).0 h
+begins s prefix h = (starts_is Decides-eqb s prefix (starts_with nat_eq s prefix) refl).0 h
 
 pub finds : (document : Data) (s : List ℕ) → is_target document s ≡ true → Finds document s
 finds document s h =
