@@ -225,3 +225,152 @@ passes_find document handlers plain h =
     All-append (Finds document) (flat_map (λ listener. pass_of (Some listener)) (listeners_in document)) (flat_map (λ step. pass_of (get (codes "action") step)) (steps_in document))
     (all_flat (Finds document) (λ listener. pass_of (Some listener)) (listeners_in document) (λ k d lt. found_in document _ (listener_good c _ (listeners k d lt)) (plain.listeners k d lt)))
     (all_flat (Finds document) (λ step. pass_of (get (codes "action") step)) (steps_in document) (λ k d lt. found_in document _ (step_good c _ (steps k d lt)) (plain.steps k d lt).pass))
+
+-- ---- what stands at the targets
+
+some_same : (d e : Data) → Some d ≡ Some e → d ≡ e
+some_same d e h = cc h
+
+-- a member that is found is the first one or one of the others
+member_case : {P : Type 0} (o : Ordering) (a : Option Data) (e d : Data) → match_ordering o a (Some e) a ≡ Some d → (e ≡ d → P) → (a ≡ Some d → P) → P
+member_case Less a e d h f g = g h
+member_case Equal a e d h f g = f (some_same e d h)
+member_case Greater a e d h f g = g h
+
+first_one : (xs : List Data) (x y : Data) → x ≡ y → Contains (x ∷ xs) y
+first_one xs x y e = (0, omega arith, e)
+
+value_there : (name : List ℕ) (ms : Members) (d : Data) → get_member name ms ≡ Some d → Contains (values_list ms) d
+value_there name no_members d h = absurd (cc h)
+value_there name (member k e ms) d h =
+    member_case (slice_cmp nat_cmp name k) (get_member name ms) e d h
+    (λ same. first_one (values_list ms) e d same)
+    (λ rest. Contains-append_right (e ∷ []) (values_list ms) d (value_there name ms d rest))
+
+-- the items of one value of several stand among those of all
+items_there : (name : List ℕ) (ms : Members) (d : Data) → get_member name ms ≡ Some d → All (Contains (flat_map items_of (values_list ms))) (items_of d)
+items_there name no_members d h = absurd (cc h)
+items_there name (member k e ms) d h =
+    let all = flat_map items_of (values_list (member k e ms)) in
+    member_case (slice_cmp nat_cmp name k) (get_member name ms) e d h
+    (λ same. subst (λ (x : Data). All (Contains all) (items_of x)) same (All-weaker (Contains (items_of e)) (Contains all) (λ x there. Contains-append_left (items_of e) (flat_map items_of (values_list ms)) x there) (items_of e) (All-contains_itself (items_of e))))
+    (λ rest. All-weaker (Contains (flat_map items_of (values_list ms))) (Contains all) (λ x there. Contains-append_right (items_of e) (flat_map items_of (values_list ms)) x there) (items_of d) (items_there name ms d rest))
+
+-- rule 3 of an object that breaks none
+required_there : (c : Context) (p : Place) (ms : Members) → (row_of p).members ≡ Some names.Fixed → NoFault c p (object ms) → has_required (entries_of p) ms ≡ true
+required_there c p ms row h = not_broken (has_required (entries_of p) ms) 3 (or_left _ _ (sym (object_walk c p names.Fixed ms row) ∙ h))
+
+step_required : (ms : Members) → has_required (entries_of place.Step) ms ≡ true → is_some (get_member (codes "action") ms) ≡ true
+unfolding entries_of
+step_required ms h = (and_parts (has (codes "action") ms) true h).0
+
+application_required : (ms : Members) → has_required (entries_of place.Application) ms ≡ true → is_some (get_member (codes "executable") ms) ≡ true
+unfolding entries_of
+application_required ms h =
+    (and_parts (has (codes "executable") ms) true (and_parts (has (codes "type") ms) (has (codes "executable") ms && true) h).1).0
+
+action_there : (c : Context) (d : Data) → NoFault c place.Step d → IsTrue (is_some (get (codes "action") d))
+unfolding row_of
+action_there c null h = absurd (cc h)
+action_there c (boolean b) h = absurd (cc h)
+action_there c (number n) h = absurd (cc h)
+action_there c (string s) h = absurd (cc h)
+action_there c (array ds) h = absurd (cc h)
+action_there c (object ms) h = step_required ms (required_there c place.Step ms fixed-Step h)
+
+executable_there : (c : Context) (d : Data) → NoFault c place.Application d → is_some (get (codes "executable") d) ≡ true
+unfolding row_of
+executable_there c null h = absurd (cc h)
+executable_there c (boolean b) h = absurd (cc h)
+executable_there c (number n) h = absurd (cc h)
+executable_there c (string s) h = absurd (cc h)
+executable_there c (array ds) h = absurd (cc h)
+executable_there c (object ms) h = application_required ms (required_there c place.Application ms fixed-Application h)
+
+-- a route that breaks no rule is an array
+steps_array : (c : Context) (d : Data) → NoFault c place.Steps d → (ds : Items) × (d ≡ array ds)
+unfolding row_of
+steps_array c null h = absurd (cc h)
+steps_array c (boolean b) h = absurd (cc h)
+steps_array c (number n) h = absurd (cc h)
+steps_array c (string s) h = absurd (cc h)
+steps_array c (array ds) h = (ds, refl)
+steps_array c (object ms) h = absurd (cc h)
+
+-- an executable that breaks no rule is a text
+executable_text : (c : Context) (o : Option Data) → is_some o ≡ true → IsClean c place.Executable o → IsTrue (is_some (text_in o))
+unfolding row_of
+executable_text c None e h = absurd (cc e)
+executable_text c (Some null) e h = absurd (cc (h null refl))
+executable_text c (Some (boolean b)) e h = absurd (cc (h (boolean b) refl))
+executable_text c (Some (number n)) e h = absurd (cc (h (number n) refl))
+executable_text c (Some (string s)) e h = refl
+executable_text c (Some (array ds)) e h = absurd (cc (h (array ds) refl))
+executable_text c (Some (object ms)) e h = absurd (cc (h (object ms) refl))
+
+handler_there : (handlers : List (List ℕ)) (s : List ℕ) → list_any (λ name. bytes_eq name s) handlers ≡ true → Contains handlers s
+handler_there [] s h = absurd (cc h)
+handler_there (n ∷ ns) s h =
+    or_case (bytes_eq n s) (list_any (λ name. bytes_eq name s) ns) h
+    (λ same. (0, omega arith, (bytes_eq-Decides n s).0 same))
+    (λ rest. Contains-append_right (n ∷ []) ns s (handler_there ns s rest))
+
+application_kept : (c : Context) (d : Data) → NoFault c place.Application d → Contains (applications_in c.document) d → IsApplication c.document c.handlers d
+application_kept c d h there =
+    let clean = get_clean c place.Application place.Executable (codes "executable") d fixed-Application at-Application-executable h in
+    record {
+      there = there;
+      executable = executable_text c (get (codes "executable") d) (executable_there c d h) clean;
+      handler = text_kept (Contains c.handlers) c place.Executable form.Handler (get (codes "executable") d) text-Executable (λ s e. handler_there c.handlers s (handler_kept c form.Handler s e)) clean;
+    }
+
+steps_kept : (c : Context) (ds : List Data) → All (NoFault c place.Step) ds → All (Contains (steps_in c.document)) ds → All (IsStep c.document) ds
+steps_kept c ds h there = λ k d lt. record { there = there k d lt; action = action_there c _ (h k d lt) }
+
+-- ---- where the passes lead
+
+-- the member of an object
+part_member : (name : List ℕ) (o : Option Data) (d : Data) → part name o ≡ Some d → (ms : Members) × (o ≡ Some (object ms)) × (get_member name ms ≡ Some d)
+part_member name None d h = absurd (cc h)
+part_member name (Some null) d h = absurd (cc h)
+part_member name (Some (boolean b)) d h = absurd (cc h)
+part_member name (Some (number n)) d h = absurd (cc h)
+part_member name (Some (string s)) d h = absurd (cc h)
+part_member name (Some (array ds)) d h = absurd (cc h)
+part_member name (Some (object ms)) d h = (ms, refl, h)
+
+all_routes : (c : Context) (o : Option Data) (steps : Items) → IsClean c place.Routes o → o ≡ Some (array steps) → All (Contains (list_in steps_of_routes o)) (items_list steps) × All (NoFault c place.Step) (items_list steps)
+all_routes c o steps clean e =
+    (subst (λ (x : Option Data). All (Contains (list_in steps_of_routes x)) (items_list steps)) (sym e) (All-contains_itself (items_list steps)), array_clean c place.Routes place.Step steps items-Routes (clean (array steps) e))
+
+one_route : (c : Context) (o : Option Data) (ms : Members) (name : List ℕ) (steps : Items) → IsClean c place.Routes o → o ≡ Some (object ms) → get_member name ms ≡ Some (array steps) → All (Contains (list_in steps_of_routes o)) (items_list steps)
+one_route c o ms name steps clean e g =
+    subst (λ (x : Option Data). All (Contains (list_in steps_of_routes x)) (items_list steps)) (sym e) (items_there name ms (array steps) g)
+
+route_clean : (c : Context) (o : Option Data) (ms : Members) (name : List ℕ) (route : Data) → IsClean c place.Routes o → o ≡ Some (object ms) → get_member name ms ≡ Some route → NoFault c place.Steps route
+route_clean c o ms name route clean e g =
+    All-contains (NoFault c place.Steps) (values_list ms) route (values_clean c (entries_of place.Routes) place.Steps [] ms (object_clean c place.Routes (names.Target place.Steps) ms members-Routes (clean (object ms) e))) (value_there name ms route g)
+
+application_clean : (c : Context) (o : Option Data) (ms : Members) (name : List ℕ) (d : Data) → IsClean c place.Applications o → o ≡ Some (object ms) → get_member name ms ≡ Some d → NoFault c place.Application d × Contains (list_in member_values o) d
+application_clean c o ms name d clean e g =
+    (All-contains (NoFault c place.Application) (values_list ms) d (values_clean c (entries_of place.Applications) place.Application [] ms (object_clean c place.Applications (names.Target place.Application) ms members-Applications (clean (object ms) e))) (value_there name ms d g), subst (λ (x : Option Data). Contains (list_in member_values x) d) (sym e) (value_there name ms d g))
+
+lead : (c : Context) (s : List ℕ) → IsClean c place.Routes (get (codes "routes") c.document) → IsClean c place.Applications (get (codes "applications") c.document) → Finds c.document s → Leads c.document c.handlers s
+lead c s routes applications (the_routes steps e g) =
+    let all = all_routes c (get (codes "routes") c.document) steps routes g in
+    to_routes steps e g (steps_kept c (items_list steps) all.1 all.0)
+lead c s routes applications (a_route name route e g) =
+    let m = part_member name (get (codes "routes") c.document) route g in
+    let clean = route_clean c (get (codes "routes") c.document) m.0 name route routes m.1 m.2 in
+    let steps = steps_array c route clean in
+    to_route name steps.0 e (g ∙ ap (λ (d : Data). Some d) steps.1) (steps_kept c (items_list steps.0) (array_clean c place.Steps place.Step steps.0 items-Steps (subst (λ (d : Data). NoFault c place.Steps d) steps.1 clean)) (one_route c (get (codes "routes") c.document) m.0 name steps.0 routes m.1 (m.2 ∙ ap (λ (d : Data). Some d) steps.1)))
+lead c s routes applications (an_application name d e g) =
+    let m = part_member name (get (codes "applications") c.document) d g in
+    let clean = application_clean c (get (codes "applications") c.document) m.0 name d applications m.1 m.2 in
+    to_application name d e g (application_kept c d clean.0 clean.1)
+
+-- each pass of a listener or of a step's action leads to steps or to an application that are there
+pub passes_lead : (document : Data) (handlers : List (List ℕ)) → IsPlain document → fault_of document handlers ≡ None → All (Leads document handlers) (passes_of document)
+passes_lead document handlers plain h =
+    let c = context document handlers in
+    All-weaker (Finds document) (Leads document handlers) (λ s found. lead c s (get_clean c place.Whole place.Routes (codes "routes") document fixed-Whole at-Whole-routes h) (get_clean c place.Whole place.Applications (codes "applications") document fixed-Whole at-Whole-applications h) found) (passes_of document) (passes_find document handlers plain h)

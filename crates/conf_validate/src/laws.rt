@@ -2,7 +2,7 @@
 ghost use Rattle.std.specs.Prelude.{◌≡◌, All, List, None, ℕ};
 ghost use Rattle.serde_json.specs.Data.{Data};
 ghost use Rattle.conf_tree.specs.Document.{IsDocument};
-ghost use Rattle.conf_validate.specs.Plain.{Finds, IsPlain, passes_of, plain_table};
+ghost use Rattle.conf_validate.specs.Plain.{Finds, IsPlain, Leads, passes_of, plain_table};
 ghost use Rattle.conf_validate.specs.Valid.{fault_by, fault_of};
 
 /// Where no pass and no location of a document has a `$`, and it has none of the later members, its first broken rule is
@@ -15,4 +15,10 @@ pub fn plain_documents_keep_the_plain_rules()
 /// routes, a route or an application that is there.
 pub fn plain_passes_find_their_targets()
     ensures { (document : Data) (handlers : List (List ℕ)) → IsPlain document → fault_of document handlers ≡ None → All (Finds document) (passes_of document) }
+{}
+
+/// So each of these passes leads to steps of the document, which have actions, or to an application of it, whose handler is
+/// there.
+pub fn plain_passes_lead_somewhere()
+    ensures { (document : Data) (handlers : List (List ℕ)) → IsPlain document → fault_of document handlers ≡ None → All (Leads document handlers) (passes_of document) }
 {}
