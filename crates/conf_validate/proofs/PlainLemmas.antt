@@ -229,14 +229,13 @@ steps_each (d ∷ ds) h =
 
 whole_placed : (ms : Members) (k : List ℕ) (d : Data) → IsPlain (object ms) → get_member k ms ≡ Some d → Placed k d (entries_of place.Whole)
 unfolding entries_of
-whole_placed ms k d h at =
-    (
-        λ e. subst (λ (o : Option Data). All IsPlainListener (list_in member_values o)) (named_so k (codes "listeners") ms d at e) h.listeners,
-        (
-            λ e. subst (λ (o : Option Data). All IsPlainStep (list_in steps_of_routes o)) (named_so k (codes "routes") ms d at e) h.steps,
-            (λ e. tt, (λ e. tt, (not_there k (codes "access_log") ms d at h.access_log, tt)))
-        )
-    )
+whole_placed ms k d h at = (
+  λ e. subst (λ (o : Option Data). All IsPlainListener (list_in member_values o)) (named_so k (codes "listeners") ms d at e) h.listeners,
+  (
+    λ e. subst (λ (o : Option Data). All IsPlainStep (list_in steps_of_routes o)) (named_so k (codes "routes") ms d at e) h.steps,
+    (λ e. tt, (λ e. tt, (not_there k (codes "access_log") ms d at h.access_log, tt))),
+  ),
+)
 
 whole_agree : (ms : Members) (k : List ℕ) (d : Data) → IsPlain (object ms) → get_member k ms ≡ Some d → place_among k (entries_of place.Whole) ≡ place_among k (plain_entries_of place.Whole)
 unfolding entries_of plain_entries_of
@@ -253,17 +252,16 @@ step_placed ms k d h at =
 
 action_placed : (ms : Members) (k : List ℕ) (d : Data) → IsPlainAction (Some (object ms)) → get_member k ms ≡ Some d → Placed k d (entries_of place.Action)
 unfolding entries_of
-action_placed ms k d h at =
+action_placed ms k d h at = (
+  λ e. subst (λ (o : Option Data). IfSome (text_in o) HasNoDollar) (named_so k (codes "pass") ms d at e) h.pass,
+  (
+    λ e. tt,
     (
-        λ e. subst (λ (o : Option Data). IfSome (text_in o) HasNoDollar) (named_so k (codes "pass") ms d at e) h.pass,
-        (
-            λ e. tt,
-            (
-                λ e. subst (λ (o : Option Data). IfSome (text_in o) HasNoDollar) (named_so k (codes "location") ms d at e) h.location,
-                (not_there k (codes "rewrite") ms d at h.rewrite, (not_there k (codes "response_headers") ms d at h.response_headers, tt))
-            )
-        )
-    )
+      λ e. subst (λ (o : Option Data). IfSome (text_in o) HasNoDollar) (named_so k (codes "location") ms d at e) h.location,
+      (not_there k (codes "rewrite") ms d at h.rewrite, (not_there k (codes "response_headers") ms d at h.response_headers, tt)),
+    ),
+  ),
+)
 
 action_agree : (ms : Members) (k : List ℕ) (d : Data) → IsPlainAction (Some (object ms)) → get_member k ms ≡ Some d → place_among k (entries_of place.Action) ≡ place_among k (plain_entries_of place.Action)
 unfolding entries_of plain_entries_of
@@ -348,8 +346,8 @@ mutual
       let agree = h.0 (is_again earlier k) in
       ap₂ (λ x y. or_then (below k x) y)
       (
-          for_some_same (place_of es ns (is_again earlier k) k) (broken 2) (λ q. value_fault whole_table c q d) (λ q. value_fault plain_table c q d) (IfSome_then (place_of es ns (is_again earlier k) k) agree.1 (λ q e. value_same c q d doc.1 e))
-          ∙ ap (λ o. for_some o (broken 2) (λ q. value_fault plain_table c q d)) agree.0
+      for_some_same (place_of es ns (is_again earlier k) k) (broken 2) (λ q. value_fault whole_table c q d) (λ q. value_fault plain_table c q d) (IfSome_then (place_of es ns (is_again earlier k) k) agree.1 (λ q e. value_same c q d doc.1 e))
+      ∙ ap (λ o. for_some o (broken 2) (λ q. value_fault plain_table c q d)) agree.0
       )
       (members_same c es fs ns (earlier ++ k ∷ []) ms doc.3 h.1)
 

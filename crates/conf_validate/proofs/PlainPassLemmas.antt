@@ -152,8 +152,10 @@ finds document s h =
   where
     is_routes : Bool
     is_routes = bytes_eq s (codes "routes") && is_array (get (codes "routes") document)
+
     is_route : Bool
     is_route = starts_with nat_eq s (codes "routes/") && has_member (drop 7 s) (get (codes "routes") document)
+
     is_application : Bool
     is_application = starts_with nat_eq s (codes "applications/") && has_member (drop 13 s) (get (codes "applications") document)
 

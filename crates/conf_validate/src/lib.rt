@@ -21,7 +21,10 @@ mod walk;
 
 pub use conf::{Application, Changes, Conf, Step};
 pub use fault::{ConfFault, Invalid};
-pub use laws::{plain_documents_keep_the_plain_rules, plain_passes_find_their_targets, plain_passes_lead_somewhere};
+pub use laws::{
+    plain_documents_keep_the_plain_rules, plain_passes_find_their_targets,
+    plain_passes_lead_somewhere,
+};
 pub use matching::{Match, NamedPatterns, NamedSet, NamedSets};
 pub use validation::validate;
 pub use walk::first_fault;
