@@ -1,5 +1,5 @@
 -- In a valid plain document each pass leads to steps or to an application that are there.
-use Rattle.std.proofs.Common.{◌≡◌, ◌∙◌, ℕ, Bool, true, false, not, ◌&&◌, ◌||◌, List, [], ◌∷◌, ◌++◌, drop, take, length, codes, Option, Some, None, IfSome, IsTrue, All, Ordering, Less, Equal, Greater, refl, sym, ap, subst, arith, eqb}
+use Rattle.std.proofs.Common.{◌≡◌, ◌∙◌, ℕ, Bool, true, false, not, ◌&&◌, ◌||◌, List, [], ◌∷◌, ◌++◌, drop, length, codes, Option, Some, None, IfSome, IsTrue, All, Ordering, Less, Equal, Greater, refl, sym, ap, subst, arith}
 use Rattle.std.proofs.lemmas.Bool.{and_parts}
 use Rattle.std.proofs.lemmas.Bool.Decides.{Decides-eqb}
 use Rattle.std.proofs.lemmas.List.Elements.{All-append, All-cons, All-contains, All-contains_itself, All-head, All-nil, All-tail, All-weaker, Contains-append_left, Contains-append_right}
@@ -15,12 +15,11 @@ use Rattle.serde_json.specs.Find.{get, get_member}
 use Rattle.conf_validate.specs.Choices.{has}
 use Rattle.conf_validate.specs.Configuration.{items_list, items_of, list_in, part, steps_of_routes, text_in, values_list}
 use Rattle.conf_validate.specs.Forms.{is_listener_name}
-use Rattle.conf_validate.specs.Plain.{Finds, the_routes, a_route, an_application, HasNoDollar, IsApplication, IsPlain, IsPlainAction, IsPlainListener, IsPlainStep, IsStep, Leads, to_routes, to_route, to_application, applications_in, listeners_in, member_values, pass_of, passes_of, steps_in}
+use Rattle.conf_validate.specs.Plain.{Finds, the_routes, a_route, an_application, HasNoDollar, IsApplication, IsPlain, IsStep, Leads, to_routes, to_route, to_application, applications_in, listeners_in, member_values, pass_of, passes_of, steps_in}
 use Rattle.conf_validate.specs.Table.{Entry, entries_of, place_among, row_of, whole_table}
 use Rattle.conf_validate.specs.Targets.{has_member, is_array, is_pass, is_target}
-use Rattle.conf_validate.specs.Valid.{Context, broken_if, fault_of, for_some, has_required, is_choice_at, members_fault, or_then, text_fault, value_fault}
+use Rattle.conf_validate.specs.Valid.{Context, broken_if, fault_of, has_required, members_fault, text_fault}
 use Rattle.conf_validate.specs.declared.place.Form.TheVariants as form
-use Rattle.conf_validate.specs.declared.place.Names.{Names}
 use Rattle.conf_validate.specs.declared.place.Names.TheVariants as names
 use Rattle.conf_validate.specs.declared.place.Place.{Place}
 use Rattle.conf_validate.specs.declared.place.Place.TheVariants as place
