@@ -276,17 +276,17 @@ fn values() -> &'static [&'static str] {
     ]
 }
 
-/// A value with a text of so many bytes, of which the first is `/`.
-fn long_rewrite(alloc: Global, count: usize) -> Result<String, AllocError> {
-    let text = "a".repeat(alloc, count - 1)?;
+/// A value whose `rewrite` has so many bytes behind its `/`.
+fn long_rewrite(alloc: Global, behind: usize) -> Result<String, AllocError> {
+    let text = "a".repeat(alloc, behind)?;
     format!(in alloc; r#"{{"pass":"applications/a","rewrite":"/{text}"}}"#)
 }
 
 #[test]
 fn limits_rewrites(rt: HostRuntime) -> Result<(), Fail> {
-    let longest = long_rewrite(rt.alloc(), 1024)?;
+    let longest = long_rewrite(rt.alloc(), 1023)?;
     accepts(&rt, &action(), &[longest.as_str()])?;
-    let longer = long_rewrite(rt.alloc(), 1025)?;
+    let longer = long_rewrite(rt.alloc(), 1024)?;
     refuses(&rt, &action(), &[(longer.as_str(), "/rewrite", 5)])
 }
 
