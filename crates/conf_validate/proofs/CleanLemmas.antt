@@ -68,7 +68,7 @@ member_clean c es ns earlier (member n e ms) k d h m =
 
 pub object_clean : (c : Context) (p : Place) (ns : Names) (ms : Members) → (row_of p).members ≡ Some ns → NoFault c p (object ms) → members_fault whole_table c (entries_of p) ns [] ms ≡ None
 object_clean c p ns ms row h =
-    or_right (broken_if (not (is_choice_at p ms)) 6) _ (or_right (broken_if (not (has_required (entries_of p) ms)) 3) _ (sym (object_walk c p ns ms row) ∙ h))
+    or_right (broken_if (not (is_choice_at whole_table p ms)) 6) _ (or_right (broken_if (not (has_required (entries_of p) ms)) 3) _ (sym (object_walk c p ns ms row) ∙ h))
 
 -- a member whose name is fixed
 pub get_clean : (c : Context) (p q : Place) (k : List ℕ) (d : Data) → (row_of p).members ≡ Some names.Fixed → place_among k (entries_of p) ≡ Some q → NoFault c p d → IsClean c q (get k d)
@@ -124,11 +124,11 @@ number_kept c q range (Some (string s)) row h = tt
 number_kept c q range (Some (array ds)) row h = tt
 number_kept c q range (Some (object ms)) row h = tt
 
-text_case : (c : Context) (q : Place) (f : Form) (s : List ℕ) → (row_of q).text ≡ Some f → NoFault c q (string s) → text_fault c f s ≡ None
-text_case c q f s row h = ap (λ o. for_some o (broken 1) (λ g. text_fault c g s)) (sym row) ∙ h
+text_case : (c : Context) (q : Place) (f : Form) (s : List ℕ) → (row_of q).text ≡ Some f → NoFault c q (string s) → text_fault whole_table c f s ≡ None
+text_case c q f s row h = ap (λ o. for_some o (broken 1) (λ g. text_fault whole_table c g s)) (sym row) ∙ h
 
 -- what is true of each text of the form that breaks no rule
-pub text_kept : (P : List ℕ → Type 0) (c : Context) (q : Place) (f : Form) (o : Option Data) → (row_of q).text ≡ Some f → ((s : List ℕ) → text_fault c f s ≡ None → P s) → IsClean c q o → IfSome (text_in o) P
+pub text_kept : (P : List ℕ → Type 0) (c : Context) (q : Place) (f : Form) (o : Option Data) → (row_of q).text ≡ Some f → ((s : List ℕ) → text_fault whole_table c f s ≡ None → P s) → IsClean c q o → IfSome (text_in o) P
 text_kept P c q f None row g h = tt
 text_kept P c q f (Some null) row g h = tt
 text_kept P c q f (Some (boolean b)) row g h = tt
@@ -137,10 +137,10 @@ text_kept P c q f (Some (string s)) row g h = g s (text_case c q f s row (h (str
 text_kept P c q f (Some (array ds)) row g h = tt
 text_kept P c q f (Some (object ms)) row g h = tt
 
-pub form_kept : (c : Context) (f : Form) (s : List ℕ) → text_fault c f s ≡ None → IsTrue (has_form f s)
+pub form_kept : (c : Context) (f : Form) (s : List ℕ) → text_fault whole_table c f s ≡ None → IsTrue (has_form f s)
 form_kept c f s h = not_broken (has_form f s) 5 (or_left _ _ h)
 
-pub handler_kept : (c : Context) (f : Form) (s : List ℕ) → text_fault c f s ≡ None → has_handler c f s ≡ true
+pub handler_kept : (c : Context) (f : Form) (s : List ℕ) → text_fault whole_table c f s ≡ None → has_handler c f s ≡ true
 handler_kept c f s h = not_broken (has_handler c f s) 8 (or_right _ _ (or_right _ _ h))
 
 -- ---- items and values

@@ -8,3 +8,5 @@ mod CleanLemmas
 mod MatchLemmas
 mod DestinationLemmas
 mod KeptLemmas
+mod PlainLemmas
+pub mod PlainPassLemmas
