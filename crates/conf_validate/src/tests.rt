@@ -4,6 +4,7 @@ ghost use Rattle.conf_tree.specs.View.{data_of};
 
 mod actions;
 mod applications;
+mod goals;
 mod listeners;
 mod matches;
 mod order;
