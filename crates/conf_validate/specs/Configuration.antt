@@ -1,19 +1,28 @@
 -- What a valid document says.
-use Rattle.std.specs.Prelude.{ℕ, ◌^◌, nat_lt, List, [], ◌∷◌, map, codes, Bool, true, false, Option, Some, None, option_and_then, option_map, if◌then◌else◌}
-use Rattle.std.specs.List.{flat_map}
+use Rattle.std.specs.Prelude.{ℕ, suc, ◌+◌, ◌^◌, ◌==◌, nat_lt, nat_le, List, [], ◌∷◌, ◌++◌, length, map, codes, Bool, true, false, Option, Some, None, option_and_then, option_map, if◌then◌else◌}
+use Rattle.std.specs.List.{flat_map, list_any}
 use Rattle.std.specs.Option.{option_to_list, unwrap_or}
-use Rattle.std.specs.Str.{str_to_ascii_lowercase}
+use Rattle.std.specs.Str.{bytes_eq, str_to_ascii_lowercase}
 use Rattle.pattern_addr.specs.AddressPattern.{AddressPattern, address_pattern_of}
 use Rattle.serde_json.specs.Data.{Num, unsigned, negative, float, Data, null, boolean, number, string, array, object, Items, no_items, item, Members, no_members, member}
 use Rattle.serde_json.specs.Find.{get, as_str}
+use Rattle.conf_tree.specs.View.{Named}
+use Rattle.conf_validate.specs.declared.conf.Action.{Action}
+use Rattle.conf_validate.specs.declared.conf.Action.TheVariants.{Pass, Return}
 use Rattle.conf_validate.specs.declared.conf.Application.{Application}
+use Rattle.conf_validate.specs.declared.conf.Destination.{Destination}
+use Rattle.conf_validate.specs.declared.conf.Goal.{Goal}
+use Rattle.conf_validate.specs.declared.conf.Goal.TheVariants as goal
+use Rattle.conf_validate.specs.declared.conf.Listener.{Listener}
 use Rattle.conf_validate.specs.declared.conf.Step.{Step}
 use Rattle.conf_validate.specs.declared.matching.Match.{Match}
 use Rattle.conf_validate.specs.declared.matching.NamedPatterns.{NamedPatterns}
 
--- a configuration: its applications and its steps by their index, and what it sets
+-- a configuration: its applications and its steps by their index, its listeners, what passes can name, and what it sets
 pub record Configuration : Type 0 where
   pub applications : List Application
+  pub listeners : List Listener
+  pub destinations : List Destination
   pub steps : List Step
   pub max_body : ℕ
   pub log_format : Option (List ℕ)
@@ -60,29 +69,46 @@ items_of (string s) = []
 items_of (array ds) = items_list ds
 items_of (object ms) = []
 
--- the values of an object's members, in ascending byte order of their names
-abbrev pub values_of : Data → List Data
-values_of null = []
-values_of (boolean b) = []
-values_of (number n) = []
-values_of (string s) = []
-values_of (array ds) = []
-values_of (object ms) = values_list ms
+-- the members of an object, each with its name, in ascending byte order of the names
+abbrev pub members_list : Members → List Named
+members_list no_members = []
+members_list (member k d ms) = (k, d) ∷ members_list ms
 
-abbrev pub list_in : (Data → List Data) → Option Data → List Data
+abbrev pub members_of : Data → List Named
+members_of null = []
+members_of (boolean b) = []
+members_of (number n) = []
+members_of (string s) = []
+members_of (array ds) = []
+members_of (object ms) = members_list ms
+
+abbrev pub list_in : {A : Type 0} → (Data → List A) → Option Data → List A
 list_in f None = []
 list_in f (Some d) = f d
 
+-- the members of the member of this name
+abbrev pub members_in : List ℕ → Data → List Named
+members_in name value = list_in members_of (get name value)
+
 -- ---- applications, by their index in ascending byte order of their names
 
-abbrev pub application_of : Data → Application
-application_of d = record {
-  handler = unwrap_or (text_in (get (codes "executable") d)) [];
-  timeout = number_in (part (codes "timeout") (get (codes "limits") d));
+abbrev pub application_of : Named → Application
+application_of m = record {
+  name = m.0;
+  handler = unwrap_or (text_in (get (codes "executable") m.1)) [];
+  timeout = number_in (part (codes "timeout") (get (codes "limits") m.1));
 }
 
 abbrev pub applications_of : Data → List Application
-applications_of document = map application_of (list_in values_of (get (codes "applications") document))
+applications_of document = map application_of (members_in (codes "applications") document)
+
+-- ---- listeners, by their index in ascending byte order of their names
+
+abbrev pub listener_of : Named → Listener
+listener_of m = record { name = m.0; pass = unwrap_or (text_in (get (codes "pass") m.1)) [] }
+
+abbrev pub listeners_of : Data → List Listener
+listeners_of document = map listener_of (members_in (codes "listeners") document)
 
 -- ---- steps, by their index: those of one route after those of another, in ascending byte order of the routes' names
 
@@ -177,9 +203,23 @@ match_of value = record {
   headers = option_map (sets_of true) (part (codes "headers") value);
 }
 
+-- a status of at most three digits; a valid document has no other
+abbrev pub status_of : Option ℕ → ℕ
+status_of None = 0
+status_of (Some n) = if nat_le n 999 then n else 0
+
+-- an action with this pass, or with this status where it has none
+abbrev pub action_with : Option (List ℕ) → Option ℕ → Action
+action_with (Some pass) status = Pass pass
+action_with None status = Return (status_of status)
+
+abbrev pub action_of : Option Data → Action
+action_of value = action_with (text_in (part (codes "pass") value)) (number_in (part (codes "return") value))
+
 abbrev pub step_of : Data → Step
 step_of d = record {
   conditions = match_of (get (codes "match") d);
+  action = action_of (get (codes "action") d);
   location = text_in (part (codes "location") (get (codes "action") d));
   rewrite = text_in (part (codes "rewrite") (get (codes "action") d));
   changes = changes_in (part (codes "response_headers") (get (codes "action") d));
@@ -187,6 +227,36 @@ step_of d = record {
 
 abbrev pub steps_of : Data → List Step
 steps_of document = map step_of (list_in steps_of_routes (get (codes "routes") document))
+
+-- ---- what a pass can name, in ascending byte order of the names
+
+-- each application, the first of them with this index
+abbrev pub application_destinations : ℕ → List Named → List Destination
+application_destinations app [] = []
+application_destinations app (m ∷ ms) =
+    record { name = codes "applications/" ++ m.0; goal = goal.Application app } ∷ application_destinations (suc app) ms
+
+-- each route, the first of them with its steps from this index on
+abbrev pub route_destinations : ℕ → List Named → List Destination
+route_destinations first [] = []
+route_destinations first (m ∷ ms) =
+    record { name = codes "routes/" ++ m.0; goal = goal.Route first (length (items_of m.1)) }
+    ∷ route_destinations (first + length (items_of m.1)) ms
+
+-- the routes as one, or each by its name
+abbrev pub destinations_of_routes : Data → List Destination
+destinations_of_routes null = []
+destinations_of_routes (boolean b) = []
+destinations_of_routes (number n) = []
+destinations_of_routes (string s) = []
+destinations_of_routes (array ds) =
+    record { name = codes "routes"; goal = goal.Route 0 (length (items_list ds)) } ∷ []
+destinations_of_routes (object ms) = route_destinations 0 (members_list ms)
+
+abbrev pub destinations_of : Data → List Destination
+destinations_of document =
+    application_destinations 0 (members_in (codes "applications") document)
+    ++ list_in destinations_of_routes (get (codes "routes") document)
 
 -- ---- settings
 
@@ -208,12 +278,39 @@ format_of (Some log) = Some (unwrap_or (text_in (get (codes "format") log)) defa
 abbrev pub configuration_of : Data → Configuration
 configuration_of document = record {
   applications = applications_of document;
+  listeners = listeners_of document;
+  destinations = destinations_of document;
   steps = steps_of document;
   max_body = max_body_of document;
   log_format = format_of (get (codes "access_log") document);
 }
 
 -- ---- look-ups
+
+-- the index of the listener of this name
+abbrev pub listener_index : List ℕ → List Listener → Option ℕ
+listener_index name [] = None
+listener_index name (l ∷ ls) = if bytes_eq l.name name then Some 0 else option_map suc (listener_index name ls)
+
+-- where the destination of this name leads
+abbrev pub goal_named : List ℕ → List Destination → Option Goal
+goal_named name [] = None
+goal_named name (d ∷ ds) = if bytes_eq d.name name then Some d.goal else goal_named name ds
+
+-- where a pass leads whose text has no `$`
+abbrev pub plain_goal_among : List Destination → List ℕ → Option Goal
+plain_goal_among destinations text = if list_any (λ b. b == 36) text then None else goal_named text destinations
+
+abbrev pub plain_goal : Configuration → List ℕ → Option Goal
+plain_goal conf text = plain_goal_among conf.destinations text
+
+-- where the pass of an action leads, if it has one without `$`
+abbrev pub action_goal_among : List Destination → Action → Option Goal
+action_goal_among destinations (Pass text) = plain_goal_among destinations text
+action_goal_among destinations (Return status) = None
+
+abbrev pub action_goal : Configuration → Action → Option Goal
+action_goal conf action = action_goal_among conf.destinations action
 
 -- the changes of a step, none where there is no such step
 abbrev pub changes_at : Option Step → List (List ℕ × Option (List ℕ))

@@ -1,16 +1,17 @@
 //! From a valid document to a configuration.
-ghost use Rattle.std.specs.Prelude.{◌≡◌, ◌++◌, IfOk, IfSome, OnOk, map, option_map, List};
-ghost use Rattle.std.specs.List.{flat_map};
-ghost use Rattle.conf_tree.specs.Document.{AreDocuments, AreMembers, IsDocument};
-ghost use Rattle.conf_tree.specs.View.{data_of, list_data, map_data};
-ghost use Rattle.conf_validate.specs.Configuration.{application_of, applications_of, changes_in, changes_list, configuration_of, default_format, format_of, items_list, items_of, list_in, max_body_of, number_in, part, step_of, steps_of, steps_of_routes, text_in, values_list, values_of, word};
+ghost use Rattle.std.specs.Prelude.{◌≡◌, ◌++◌, [], IfOk, IfSome, OnOk, map, option_map, List};
+ghost use Rattle.conf_tree.specs.Document.{IsDocument};
+ghost use Rattle.conf_tree.specs.View.{data_of};
+ghost use Rattle.conf_validate.specs.Configuration.{configuration_of, default_format, format_of, max_body_of, number_in, part, text_in, word};
 ghost use Rattle.conf_validate.specs.Kept.{IsKept};
-ghost use Rattle.serde_json.specs.Find.{get, of_integer};
+ghost use Rattle.serde_json.specs.Find.{of_integer};
 
-use crate::conf::{Application, Changes, Conf, Step};
+use crate::applications::{applications_of, listeners_of};
+use crate::conf::Conf;
+use crate::destinations::{application_destinations, goals_of_listeners, goals_of_steps};
 use crate::members::member_of;
-use crate::patterns::match_of;
-use conf_tree::{Tree, TreeList, TreeMap};
+use crate::routes::steps_of;
+use conf_tree::Tree;
 use std::alloc::{AllocError, Global};
 use unit_types::Bytes;
 
@@ -20,11 +21,20 @@ pub(crate) fn configuration_of(alloc: Global, document: &Tree) -> Result<Conf, A
     requires kept { IsKept (configuration_of (data_of document.now)) }
     ensures { IfOk result (λ conf. conf ≡ configuration_of (data_of document.now)) }
 {
+    let listeners = listeners_of(alloc, document)?;
+    let mut destinations = application_destinations(alloc, document)?;
+    let steps = steps_of(alloc, document, &mut destinations)?;
+    let listener_goals = goals_of_listeners(alloc, &listeners, &destinations)?;
+    let step_goals = goals_of_steps(alloc, &steps, &destinations)?;
     Ok(Conf {
         applications: applications_of(alloc, document)?,
-        steps: steps_of(alloc, document)?,
+        listeners,
+        destinations,
+        steps,
         max_body: max_body_of(document),
         log_format: format_of(alloc, member_of(document, b"access_log"))?,
+        listener_goals,
+        step_goals,
     })
 }
 
@@ -43,7 +53,7 @@ pub(crate) fn part<'a>(value: Option<&'a Tree>, name: &[u8]) -> Option<&'a Tree>
 }
 
 /// The text that the value is, where it is one.
-fn text_in(alloc: Global, value: Option<&Tree>) -> Result<Option<Bytes>, AllocError>
+pub(crate) fn text_in(alloc: Global, value: Option<&Tree>) -> Result<Option<Bytes>, AllocError>
     ensures { IfOk result (λ text. text ≡ text_in (option_map (λ t. data_of t.now) value.entry)) }
 {
     match value {
@@ -53,7 +63,7 @@ fn text_in(alloc: Global, value: Option<&Tree>) -> Result<Option<Bytes>, AllocEr
 }
 
 /// The number that the value is, where it is a `u64`.
-fn number_in(value: Option<&Tree>) -> Option<u64>
+pub(crate) fn number_in(value: Option<&Tree>) -> Option<u64>
     ensures { result ≡ number_in (option_map (λ t. data_of t.now) value.entry) }
 {
     match value {
@@ -71,147 +81,6 @@ fn word(integer: i128) -> Option<u64>
     } else {
         None
     }
-}
-
-// ---- applications
-
-fn application_of(alloc: Global, tree: &Tree) -> Result<Application, AllocError>
-    requires { IsDocument (data_of tree.now) }
-    ensures { IfOk result (λ app. app ≡ application_of (data_of tree.now)) }
-{
-    let handler = match text_in(alloc, member_of(tree, b"executable"))? {
-        Some(text) => text,
-        None => Bytes::of(Vec::new(alloc)),
-    };
-    Ok(Application {
-        handler,
-        timeout: number_in(part(member_of(tree, b"limits"), b"timeout")),
-    })
-}
-
-fn applications_of(alloc: Global, document: &Tree) -> Result<Vec<Application>, AllocError>
-    requires { IsDocument (data_of document.now) }
-    ensures { IfOk result (λ apps. apps.items ≡ applications_of (data_of document.now)) }
-{
-    match member_of(document, b"applications") {
-        Some(Tree::Object(map)) => applications_in(alloc, map),
-        _ => Ok(Vec::new(alloc)),
-    }
-}
-
-fn applications_in(alloc: Global, members: &TreeMap) -> Result<Vec<Application>, AllocError>
-    requires { AreMembers (map_data members.now) }
-    ensures { IfOk result (λ apps. apps.items ≡ map application_of (values_list (map_data members.now))) }
-{
-    let mut applications = Vec::with_capacity(alloc, members.len())?;
-    for index in 0..members.len() {
-        let Some(value) = members.value(index) else {
-            return Ok(applications);
-        };
-        applications.push(application_of(alloc, value)?)?;
-    }
-    Ok(applications)
-}
-
-// ---- steps
-
-fn step_of(alloc: Global, tree: &Tree) -> Result<Step, AllocError>
-    requires { IsDocument (data_of tree.now) }
-    ensures { IfOk result (λ step. step ≡ step_of (data_of tree.now)) }
-{
-    let action = member_of(tree, b"action");
-    Ok(Step {
-        conditions: match_of(alloc, member_of(tree, b"match"))?,
-        location: text_in(alloc, part(action, b"location"))?,
-        rewrite: text_in(alloc, part(action, b"rewrite"))?,
-        changes: changes_in(alloc, part(action, b"response_headers"))?,
-    })
-}
-
-fn changes_in(alloc: Global, value: Option<&Tree>) -> Result<Changes, AllocError>
-    requires { IfSome value (λ t. IsDocument (data_of t.now)) }
-    ensures { IfOk result (λ changes. changes ≡ changes_in (option_map (λ t. data_of t.now) value.entry)) }
-{
-    match value {
-        Some(Tree::Object(map)) => changes_of(alloc, map),
-        _ => Ok(Changes::of(Vec::new(alloc))),
-    }
-}
-
-fn changes_of(alloc: Global, members: &TreeMap) -> Result<Changes, AllocError>
-    ensures { IfOk result (λ changes. changes ≡ changes_list (map_data members.now)) }
-{
-    Ok(Changes::of(changes_list(alloc, members)?))
-}
-
-fn changes_list(alloc: Global, members: &TreeMap) -> Result<Vec<(Bytes, Option<Bytes>)>, AllocError>
-    ensures { IfOk result (λ changes. changes.items ≡ changes_list (map_data members.now)) }
-{
-    let mut changes = Vec::with_capacity(alloc, members.len())?;
-    for index in 0..members.len() {
-        let Some(name) = members.key(index) else {
-            return Ok(changes);
-        };
-        let text = text_in(alloc, members.value(index))?;
-        changes.push((Bytes::copy_of(alloc, name.as_slice())?, text))?;
-    }
-    Ok(changes)
-}
-
-fn steps_of(alloc: Global, document: &Tree) -> Result<Vec<Step>, AllocError>
-    requires { IsDocument (data_of document.now) }
-    ensures { IfOk result (λ steps. steps.items ≡ steps_of (data_of document.now)) }
-{
-    let mut steps = Vec::new(alloc);
-    match member_of(document, b"routes") {
-        Some(routes) => push_routes(alloc, &mut steps, routes)?,
-        None => {}
-    }
-    Ok(steps)
-}
-
-fn push_routes(alloc: Global, steps: &mut Vec<Step>, routes: &Tree) -> Result<(), AllocError>
-    requires { IsDocument (data_of routes.now) }
-    ensures { OnOk result (steps.new.items ≡ steps.old.items ++ map step_of (steps_of_routes (data_of routes.now))) }
-{
-    match routes {
-        Tree::List(items) => push_items(alloc, steps, items),
-        Tree::Object(map) => push_values(alloc, steps, map),
-        _ => Ok(()),
-    }
-}
-
-fn push_values(alloc: Global, steps: &mut Vec<Step>, members: &TreeMap) -> Result<(), AllocError>
-    requires { AreMembers (map_data members.now) }
-    ensures { OnOk result (steps.new.items ≡ steps.old.items ++ map step_of (flat_map items_of (values_list (map_data members.now)))) }
-{
-    for index in 0..members.len() {
-        let Some(value) = members.value(index) else {
-            return Ok(());
-        };
-        push_route(alloc, steps, value)?;
-    }
-    Ok(())
-}
-
-fn push_route(alloc: Global, steps: &mut Vec<Step>, route: &Tree) -> Result<(), AllocError>
-    requires { IsDocument (data_of route.now) }
-    ensures { OnOk result (steps.new.items ≡ steps.old.items ++ map step_of (items_of (data_of route.now))) }
-{
-    match route {
-        Tree::List(items) => push_items(alloc, steps, items),
-        _ => Ok(()),
-    }
-}
-
-fn push_items(alloc: Global, steps: &mut Vec<Step>, items: &TreeList) -> Result<(), AllocError>
-    requires { AreDocuments (list_data items.now.items) }
-    ensures { OnOk result (steps.new.items ≡ steps.old.items ++ map step_of (items_list (list_data items.now.items))) }
-{
-    for item in items {
-        steps.push(step_of(alloc, item)?)?;
-    }
-    Ok(())
 }
 
 // ---- settings

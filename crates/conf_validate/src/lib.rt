@@ -1,8 +1,10 @@
 //! Configurations: which trees are valid, and the first broken rule of the others.
 #![tactic(auto)]
 
+mod applications;
 mod compile;
 mod conf;
+mod destinations;
 mod fault;
 mod forms;
 mod lower;
@@ -12,13 +14,15 @@ mod names;
 mod patterns;
 mod place;
 mod references;
+mod routes;
 mod rules;
+mod search;
 #[cfg(test)]
 mod tests;
 mod validation;
 mod walk;
 
-pub use conf::{Application, Changes, Conf, Step};
+pub use conf::{Action, Application, Changes, Conf, Destination, Goal, Listener, Step};
 pub use fault::{ConfFault, Invalid};
 pub use matching::{Match, NamedPatterns, NamedSet, NamedSets};
 pub use validation::validate;

@@ -65,7 +65,7 @@ fn is_pass(document: &Tree, pass: &[u8]) -> bool
     }
 }
 
-fn has_dollar(text: &[u8]) -> bool
+pub(crate) fn has_dollar(text: &[u8]) -> bool
     ensures { result ≡ list_any (λ b. b == 36) text.now }
 {
     text.iter().any(|b| *b == b'$')
