@@ -2,5 +2,10 @@
 #![tactic(auto)]
 
 mod matching;
+mod target;
+#[cfg(test)]
+mod tests;
+mod walk;
 
 pub use matching::request_matches;
+pub use target::{Target, last_step, location_of, route};
