@@ -12,8 +12,8 @@ use Rattle.conf_validate.specs.declared.conf.Step.{Step}
 use Rattle.conf_validate.specs.Configuration.{Configuration, listener_index, goal_named}
 use Rattle.route_match.specs.declared.target.Target.{Target}
 use Rattle.route_match.specs.declared.target.Target.TheVariants as target
-use Rattle.route_match.specs.declared.walk.Advance.{Advance}
-use Rattle.route_match.specs.declared.walk.Advance.TheVariants.{Ends, Passes}
+use Rattle.route_match.specs.declared.walk.Progress.{Progress}
+use Rattle.route_match.specs.declared.walk.Progress.TheVariants.{Ends, Passes}
 use Rattle.route_match.specs.declared.walk.Outcome.{Outcome}
 use Rattle.route_match.specs.Matches.{request_matches}
 
@@ -58,16 +58,16 @@ arrived conf step app = record { target = target.App app (timeout_of conf app); 
 
 module _ (goal_of : List ℕ → Option Goal) where
   -- what a step does
-  abbrev pub at_action : ℕ → Action → Advance
+  abbrev pub at_action : ℕ → Action → Progress
   at_action index (Pass pass) = Passes index (goal_of pass)
   at_action index (Return status) = Ends (record { target = target.Return index status; step = Some index })
 
-  abbrev pub at_step : Option (ℕ × Step) → Advance
+  abbrev pub at_step : Option (ℕ × Step) → Progress
   at_step None = Ends (refused 404)
   at_step (Some taken) = at_action taken.0 taken.1.action
 
   -- what the pass of this step, or of the listener, comes to, by what it names
-  abbrev pub advance : Configuration → Request → Option ℕ → Option Goal → Advance
+  abbrev pub advance : Configuration → Request → Option ℕ → Option Goal → Progress
   advance conf request step None = Ends (refused 404)
   advance conf request step (Some (Application app)) = Ends (arrived conf step app)
   advance conf request step (Some (Route first count)) = at_step (step_taken conf request first count)
@@ -75,7 +75,7 @@ module _ (goal_of : List ℕ → Option Goal) where
 -- ---- the walk
 
 -- the end that was come to, or what follows from what the next pass names
-abbrev pub continued : (Option ℕ → Option Goal → Outcome) → Advance → Outcome
+abbrev pub continued : (Option ℕ → Option Goal → Outcome) → Progress → Outcome
 continued next (Ends outcome) = outcome
 continued next (Passes step goal) = next (Some step) goal
 

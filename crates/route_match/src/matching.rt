@@ -73,7 +73,7 @@ fn address_holds(patterns: &Option<AddrPatterns>, addr: Addr) -> bool
 
 /// Whether some set of names holds.
 fn names_hold(sets: &Option<NamedSets>, source: Source<'_>) -> bool
-    ensures { result ≡ holds_or_absent (some_set_holds (test_of source) (values_of source)) sets.now }
+    ensures { result ≡ holds_or_absent (some_set_holds (test_of source.entry) (values_of source.entry)) sets.now }
 {
     match sets {
         Some(sets) => some_set_holds(sets, source),
@@ -82,7 +82,7 @@ fn names_hold(sets: &Option<NamedSets>, source: Source<'_>) -> bool
 }
 
 fn some_set_holds(sets: &NamedSets, source: Source<'_>) -> bool
-    ensures { result ≡ some_set_holds (test_of source) (values_of source) sets.now }
+    ensures { result ≡ some_set_holds (test_of source.entry) (values_of source.entry) sets.now }
 {
     for set in sets.as_slice() {
         if set_holds(set.as_slice(), source) {
@@ -93,7 +93,7 @@ fn some_set_holds(sets: &NamedSets, source: Source<'_>) -> bool
 }
 
 fn set_holds(set: &[NamedPatterns], source: Source<'_>) -> bool
-    ensures { result ≡ set_holds (test_of source) (values_of source) set.now }
+    ensures { result ≡ set_holds (test_of source.entry) (values_of source.entry) set.now }
 {
     for named in set {
         if !some_value_holds(named, source) {
@@ -104,7 +104,7 @@ fn set_holds(set: &[NamedPatterns], source: Source<'_>) -> bool
 }
 
 fn some_value_holds(named: &NamedPatterns, source: Source<'_>) -> bool
-    ensures { result ≡ some_value_holds (test_of source) (values_of source) named.now }
+    ensures { result ≡ some_value_holds (test_of source.entry) (values_of source.entry) named.now }
 {
     match source {
         Source::Arguments(query) => some_argument_holds(named, query),

@@ -38,7 +38,7 @@ fn configuration(alloc: Global, text: &[u8]) -> Result<Conf, Fail> {
 
 /// What a test says of a request; the rest is empty.
 #[derive(Clone, Copy, Drop)]
-struct Asked {
+struct Parts {
     method: &'static [u8],
     target: &'static [u8],
     path: &'static [u8],
@@ -47,8 +47,8 @@ struct Asked {
     fields: &'static [(&'static [u8], &'static [u8])],
 }
 
-fn asked() -> Asked {
-    Asked {
+fn asked() -> Parts {
+    Parts {
         method: b"GET",
         target: b"/",
         path: b"/",
@@ -69,7 +69,7 @@ fn fields_of(alloc: Global, list: &[(&[u8], &[u8])]) -> Result<Fields, AllocErro
     Ok(Fields::of(fields))
 }
 
-fn request_of(alloc: Global, asked: &Asked) -> Result<Request, AllocError> {
+fn request_of(alloc: Global, asked: &Parts) -> Result<Request, AllocError> {
     Ok(Request {
         method: Bytes::copy_of(alloc, asked.method)?,
         target: Bytes::copy_of(alloc, asked.target)?,
@@ -91,8 +91,8 @@ fn request_of(alloc: Global, asked: &Asked) -> Result<Request, AllocError> {
 }
 
 /// `GET /a/b?x=1&y=2&x=3` with some fields, from 127.0.0.1 to 10.1.2.3.
-fn busy() -> Asked {
-    Asked {
+fn busy() -> Parts {
+    Parts {
         method: b"GET",
         target: b"/a/b?x=1&y=2&x=3",
         path: b"/a/b",
@@ -212,15 +212,15 @@ fn app(app: usize) -> Target {
 
 /// A listener, a request to it, its target and its last step.
 #[derive(Clone, Copy, Drop)]
-struct Row {
+struct Case {
     listener: &'static str,
-    asked: Asked,
+    asked: Parts,
     target: Target,
     step: Option<usize>,
 }
 
-fn row(listener: &'static str, target: Target, step: Option<usize>) -> Row {
-    Row {
+fn row(listener: &'static str, target: Target, step: Option<usize>) -> Case {
+    Case {
         listener,
         asked: asked(),
         target,
@@ -228,7 +228,7 @@ fn row(listener: &'static str, target: Target, step: Option<usize>) -> Row {
     }
 }
 
-fn goes(rt: &(impl Abort + AllocGlobal), conf: &Conf, row: &Row) -> Result<(), Fail> {
+fn goes(rt: &(impl Abort + AllocGlobal), conf: &Conf, row: &Case) -> Result<(), Fail> {
     let request = request_of(rt.alloc(), &row.asked)?;
     let listener = row.listener.as_bytes();
     assert!(rt; route(conf, listener, &request) == row.target, "another target");
@@ -273,8 +273,8 @@ fn realistic() -> &'static str {
     r#"{"applications":{"api":{"executable":"count","limits":{"timeout":30},"type":"external"},"site":{"executable":"hello","type":"external"}},"listeners":{"*:8080":{"pass":"routes"},"127.0.0.1:8081":{"pass":"applications/site"}},"routes":[{"action":{"pass":"applications/api"},"match":{"host":["localhost","*.example.com"],"method":["POST","PUT"],"source":"127.0.0.0/8"}},{"action":{"location":"/","return":301},"match":{"uri":["/old","/old/*"]}},{"action":{"pass":"applications/site"}}],"settings":{"http":{"max_body_size":1048576}}}"#
 }
 
-fn items() -> Asked {
-    Asked {
+fn items() -> Parts {
+    Parts {
         target: b"/items?x=1",
         path: b"/items",
         query: b"x=1",
@@ -283,8 +283,8 @@ fn items() -> Asked {
     }
 }
 
-fn form() -> Asked {
-    Asked {
+fn form() -> Parts {
+    Parts {
         method: b"POST",
         target: b"/form",
         path: b"/form",
@@ -293,8 +293,8 @@ fn form() -> Asked {
     }
 }
 
-fn old() -> Asked {
-    Asked {
+fn old() -> Parts {
+    Parts {
         target: b"/old/x",
         path: b"/old/x",
         host: b"www.example.com",
@@ -312,7 +312,7 @@ fn a_realistic_configuration_routes(rt: HostRuntime) -> Result<(), Fail> {
     goes(
         &rt,
         &conf,
-        &Row {
+        &Case {
             asked: items(),
             ..row("*:8080", app(1), Some(2))
         },
@@ -320,7 +320,7 @@ fn a_realistic_configuration_routes(rt: HostRuntime) -> Result<(), Fail> {
     goes(
         &rt,
         &conf,
-        &Row {
+        &Case {
             asked: form(),
             ..row("*:8080", late, Some(0))
         },
@@ -328,7 +328,7 @@ fn a_realistic_configuration_routes(rt: HostRuntime) -> Result<(), Fail> {
     goes(
         &rt,
         &conf,
-        &Row {
+        &Case {
             asked: old(),
             ..row("127.0.0.1:8080", returned(1, 301), Some(1))
         },
@@ -367,7 +367,7 @@ fn locations_are_expanded_with_escapes(rt: HostRuntime) -> Result<(), Fail> {
     let conf = configuration(rt.alloc(), redirecting().as_bytes())?;
     let request = request_of(rt.alloc(), &asked())?;
     assert!(rt; is_location(rt.alloc(), &conf, 0, &request, Some(b"https://a/"))?);
-    let spaced = Asked {
+    let spaced = Parts {
         path: b"/a b",
         ..asked()
     };
@@ -380,29 +380,29 @@ fn by_argument() -> &'static str {
     r#"{"applications":{"h":{"executable":"hello","type":"external"}},"listeners":{"*:1":{"pass":"routes"},"*:2":{"pass":"applications/$arg_app"}},"routes":[{"action":{"pass":"applications/$arg_app"}}]}"#
 }
 
-fn with_query(query: &'static [u8]) -> Asked {
-    Asked { query, ..asked() }
+fn with_query(query: &'static [u8]) -> Parts {
+    Parts { query, ..asked() }
 }
 
 #[test]
 fn passes_are_expanded(rt: HostRuntime) -> Result<(), Fail> {
     let conf = configuration(rt.alloc(), by_argument().as_bytes())?;
-    let found = Row {
+    let found = Case {
         asked: with_query(b"app=h"),
         ..row("*:1", app(0), Some(0))
     };
     goes(&rt, &conf, &found)?;
-    let found = Row {
+    let found = Case {
         asked: with_query(b"app=h"),
         ..row("*:2", app(0), None)
     };
     goes(&rt, &conf, &found)?;
-    let none = Row {
+    let none = Case {
         asked: with_query(b"app=z"),
         ..row("*:1", Target::Status(404), None)
     };
     goes(&rt, &conf, &none)?;
-    let unexpanded = Row {
+    let unexpanded = Case {
         asked: with_query(b"app=$arg_app"),
         ..row("*:1", Target::Status(404), None)
     };

@@ -1,7 +1,9 @@
 //! The walk over passes. No call takes memory.
-ghost use Rattle.std.specs.Prelude.{◌≡◌, MatchOption, Some, None, ℕ, List, Option};
+ghost use Rattle.std.specs.Prelude.{◌≡◌, ◌∷◌, MatchOption, Some, None, slice_get};
+ghost use Rattle.std.specs.Cmp.Lexicographic.{slice_cmp};
+ghost use Rattle.std.specs.Ordering.{nat_cmp};
 ghost use Rattle.conf_validate.specs.Configuration.{plain_goal};
-ghost use Rattle.route_match.specs.Target.{any_address_at, behind_last_colon, listener_for, step_taken, timeout_of, arrived, refused, goal_of, at_step, at_action, advance, walk, walk_from, outcome_of};
+ghost use Rattle.route_match.specs.Target.{any_address_at, behind_last_colon, listener_for, step_taken, timeout_of, arrived, refused, goal_of, at_action, advance, walk, outcome_of};
 
 use crate::matching::request_matches;
 use crate::target::Target;
@@ -24,7 +26,7 @@ pub(crate) struct Outcome {
 
 /// What a pass comes to.
 #[derive(Clone, Copy, Drop)]
-enum Advance {
+enum Progress {
     /// The walk ends.
     Ends(Outcome),
     /// This step passes on, to what its pass names.
@@ -77,8 +79,8 @@ fn walk(conf: &Conf, first: Option<Goal>, request: &Request) -> Outcome
     let mut goal = first;
     for _ in 0..MOST_PASSES {
         match advance(conf, step, goal, request) {
-            Advance::Ends(outcome) => return outcome,
-            Advance::Passes(taken, next) => {
+            Progress::Ends(outcome) => return outcome,
+            Progress::Passes(taken, next) => {
                 step = Some(taken);
                 goal = next;
             }
@@ -88,30 +90,30 @@ fn walk(conf: &Conf, first: Option<Goal>, request: &Request) -> Outcome
 }
 
 /// What the pass of this step, or of the listener, comes to, by what it names.
-fn advance(conf: &Conf, step: Option<usize>, goal: Option<Goal>, request: &Request) -> Advance
+fn advance(conf: &Conf, step: Option<usize>, goal: Option<Goal>, request: &Request) -> Progress
     ensures { result ≡ advance (goal_of conf.now request.now) conf.now request.now step goal }
 {
     match goal {
-        Some(Goal::Application(app)) => Advance::Ends(arrived(conf, step, app)),
+        Some(Goal::Application(app)) => Progress::Ends(arrived(conf, step, app)),
         Some(Goal::Route { first, count }) => match step_taken(conf, first, count, request) {
             Some((index, step)) => at_action(conf, index, step, request),
-            None => Advance::Ends(refused(404)),
+            None => Progress::Ends(refused(404)),
         },
-        None => Advance::Ends(refused(404)),
+        None => Progress::Ends(refused(404)),
     }
 }
 
 /// What a step does that is taken.
-fn at_action(conf: &Conf, index: usize, step: &Step, request: &Request) -> Advance
+fn at_action(conf: &Conf, index: usize, step: &Step, request: &Request) -> Progress
     requires { slice_get conf.now.steps index ≡ Some step.now }
     ensures { result ≡ at_action (goal_of conf.now request.now) index step.now.action }
 {
     match &step.action {
         Action::Pass(pass) => {
             let known = conf.step_goal(index);
-            Advance::Passes(index, goal_of(conf, known, pass.as_slice(), request))
+            Progress::Passes(index, goal_of(conf, known, pass.as_slice(), request))
         }
-        Action::Return(status) => Advance::Ends(Outcome {
+        Action::Return(status) => Progress::Ends(Outcome {
             target: Target::Return {
                 step: index,
                 status: *status,
