@@ -3,11 +3,12 @@ ghost use Rattle.std.specs.Prelude.{◌≡◌, codes};
 ghost use Rattle.pattern_addr.specs.AddressPattern as address;
 ghost use Rattle.pattern_text.specs.TextPattern.{list_matches, list_matches_ignoring_case};
 ghost use Rattle.path_normal.specs.Pairs.{arguments_of, cookies_of};
-ghost use Rattle.route_match.specs.Matches.{holds_or_absent, some_value_holds, set_holds, some_set_holds, request_matches};
+ghost use Rattle.path_normal.specs.PairsLeft.{pair_text};
+ghost use Rattle.route_match.specs.Matches.{holds_or_absent, value_holds, some_value_holds, set_holds, some_set_holds, target_matches, method_matches, addresses_match, names_match, request_matches};
 ghost use Rattle.route_match.specs.Source.{values_of, test_of};
 
 use conf_validate::{Match, NamedPatterns, NamedSets};
-use path_normal::{arguments_in, cookies_in};
+use path_normal::{Pair, arguments_in, cookies_in};
 use pattern_addr::AddrPatterns;
 use pattern_text::TextPatterns;
 use unit_types::{Addr, Field, Fields, Request};
@@ -32,14 +33,38 @@ enum Source<'a> {
 pub fn request_matches(conditions: &Match, request: &Request) -> bool
     ensures { result ≡ request_matches conditions.now request.now }
 {
+    target_matches(conditions, request)
+        && method_matches(conditions, request)
+        && addresses_match(conditions, request)
+        && names_match(conditions, request)
+}
+
+fn target_matches(conditions: &Match, request: &Request) -> bool
+    ensures { result ≡ target_matches conditions.now request.now }
+{
     text_holds(&conditions.uri, request.path.as_slice())
         && lower_text_holds(&conditions.host, request.host.as_slice())
-        && lower_text_holds(&conditions.method, request.method.as_slice())
-        && lower_text_holds(&conditions.scheme, b"http")
         && text_holds(&conditions.query, request.query.as_slice())
-        && address_holds(&conditions.source, request.from)
+}
+
+fn method_matches(conditions: &Match, request: &Request) -> bool
+    ensures { result ≡ method_matches conditions.now request.now }
+{
+    lower_text_holds(&conditions.method, request.method.as_slice())
+        && lower_text_holds(&conditions.scheme, b"http")
+}
+
+fn addresses_match(conditions: &Match, request: &Request) -> bool
+    ensures { result ≡ addresses_match conditions.now request.now }
+{
+    address_holds(&conditions.source, request.from)
         && address_holds(&conditions.destination, request.to)
-        && names_hold(&conditions.arguments, Source::Arguments(request.query.as_slice()))
+}
+
+fn names_match(conditions: &Match, request: &Request) -> bool
+    ensures { result ≡ names_match conditions.now request.now }
+{
+    names_hold(&conditions.arguments, Source::Arguments(request.query.as_slice()))
         && names_hold(&conditions.cookies, Source::Cookies(&request.fields))
         && names_hold(&conditions.headers, Source::Headers(request.fields.as_slice()))
 }
@@ -117,31 +142,44 @@ fn some_argument_holds(named: &NamedPatterns, query: &[u8]) -> bool
     ensures { result ≡ some_value_holds list_matches (arguments_of query.now) named.now }
 {
     for pair in arguments_in(query) {
-        if pair.name.is(named.name.as_slice()) && named.patterns.matches_bytes(pair.value) {
+        if pair_holds(named, pair) {
             return true;
         }
     }
     false
+}
+
+/// Whether an argument or a cookie has this name, and a value that the patterns match.
+fn pair_holds(named: &NamedPatterns, pair: Pair<'_>) -> bool
+    ensures { result ≡ value_holds list_matches named.now (pair_text pair.entry) }
+{
+    pair.name.is(named.name.as_slice()) && named.patterns.matches_bytes(pair.value)
 }
 
 fn some_cookie_holds(named: &NamedPatterns, fields: &Fields) -> bool
     ensures { result ≡ some_value_holds list_matches (cookies_of fields.now) named.now }
 {
     for cookie in cookies_in(fields) {
-        if cookie.name.is(named.name.as_slice()) && named.patterns.matches_bytes(cookie.value) {
+        if pair_holds(named, cookie) {
             return true;
         }
     }
     false
 }
 
+/// Whether a field has this name, and a value that the patterns match.
+fn field_holds(named: &NamedPatterns, field: &Field) -> bool
+    ensures { result ≡ value_holds list_matches_ignoring_case named.now field.now }
+{
+    field.name.as_slice() == named.name.as_slice()
+        && named.patterns.matches_ignoring_case(field.value.as_slice())
+}
+
 fn some_field_holds(named: &NamedPatterns, fields: &[Field]) -> bool
     ensures { result ≡ some_value_holds list_matches_ignoring_case fields.now named.now }
 {
     for field in fields {
-        if field.name.is_equal(&named.name)
-            && named.patterns.matches_ignoring_case(field.value.as_slice())
-        {
+        if field_holds(named, field) {
             return true;
         }
     }
