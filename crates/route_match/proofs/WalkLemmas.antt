@@ -8,8 +8,8 @@ use Rattle.conf_validate.specs.declared.conf.Goal.{Goal}
 use Rattle.conf_validate.specs.declared.conf.Step.{Step}
 use Rattle.conf_validate.specs.Configuration.{Configuration}
 use Rattle.route_match.specs.Matches.{request_matches}
-use Rattle.route_match.specs.declared.walk.Outcome.{Outcome}
-use Rattle.route_match.specs.Target.{advance, continued, first_matching, walk}
+use Rattle.route_match.specs.declared.walk.Progress.{Progress}
+use Rattle.route_match.specs.Target.{advance, continued, first_matching, refused, walk}
 
 -- ---- steps
 
@@ -41,3 +41,15 @@ from_index all first = take_all (length all - first) (drop first all) (omega (ar
 pub among_all : (all steps : List Step) (first at : ℕ) (s : Step) → steps ≡ drop first all → length steps + first ≡ length all → at < length steps → s ≡ get_or steps at s → slice_get all (first + at) ≡ Some s
 among_all all steps first at s are size within is =
     slice_get_read all (length all) (first + at) s refl (omega arith) (is ∙ ap (λ l. get_or l at s) are ∙ get_or-drop first all at s)
+
+-- ---- passes
+
+module _ (goal_of : List ℕ → Option Goal) (conf : Configuration) (request : Request) where
+  pub goes_on : (left more : ℕ) (step : Option ℕ) (goal : Option Goal) (progress : Progress) → left ≡ suc more → progress ≡ advance goal_of conf request step goal → walk goal_of conf request left step goal ≡ continued (walk goal_of conf request more) progress
+  unfolding walk
+  goes_on left more step goal progress e is =
+      ap (λ n. walk goal_of conf request n step goal) e ∙ ap (continued (walk goal_of conf request more)) (sym is)
+
+  pub ends : (left : ℕ) (step : Option ℕ) (goal : Option Goal) → left ≡ 0 → walk goal_of conf request left step goal ≡ refused 500
+  unfolding walk
+  ends left step goal e = ap (λ n. walk goal_of conf request n step goal) e
