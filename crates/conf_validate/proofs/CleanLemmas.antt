@@ -8,7 +8,8 @@ use Rattle.std.specs.List.{flat_map}
 use Rattle.std.specs.Ordering.{nat_cmp, match_ordering}
 use Rattle.serde_json.specs.Data.{Num, unsigned, negative, float, Data, null, boolean, number, string, array, object, Items, no_items, item, Members, no_members, member}
 use Rattle.serde_json.specs.Find.{get, get_member}
-use Rattle.conf_validate.specs.Configuration.{items_list, items_of, number_in, part, text_in, values_list}
+use Rattle.conf_tree.specs.View.{Named}
+use Rattle.conf_validate.specs.Configuration.{items_list, items_of, members_list, number_in, part, text_in, values_list}
 use Rattle.conf_validate.specs.Forms.{has_form, is_again, is_target_name}
 use Rattle.conf_validate.specs.Table.{Entry, entries_of, place_among, row_of, whole_table}
 use Rattle.conf_validate.specs.Valid.{Context, below, broken, broken_if, for_some, has_handler, has_required, is_choice_at, is_in_range, items_fault, members_fault, or_then, place_if, place_of, text_fault, value_fault}
@@ -67,7 +68,7 @@ member_clean c es ns earlier (member n e ms) k d h m =
 
 pub object_clean : (c : Context) (p : Place) (ns : Names) (ms : Members) → (row_of p).members ≡ Some ns → NoFault c p (object ms) → members_fault whole_table c (entries_of p) ns [] ms ≡ None
 object_clean c p ns ms row h =
-    or_right (broken_if (not (is_choice_at p ms)) 6) _ (or_right (broken_if (not (has_required (entries_of p) ms)) 3) _ (sym (object_walk c p ns ms row) ∙ h))
+    or_right (broken_if (not (is_choice_at whole_table p ms)) 6) _ (or_right (broken_if (not (has_required (entries_of p) ms)) 3) _ (sym (object_walk c p ns ms row) ∙ h))
 
 -- a member whose name is fixed
 pub get_clean : (c : Context) (p q : Place) (k : List ℕ) (d : Data) → (row_of p).members ≡ Some names.Fixed → place_among k (entries_of p) ≡ Some q → NoFault c p d → IsClean c q (get k d)
@@ -83,6 +84,10 @@ get_clean c p q k (object ms) row at h = λ e m.
 pub part_clean : (c : Context) (p q : Place) (k : List ℕ) (o : Option Data) → (row_of p).members ≡ Some names.Fixed → place_among k (entries_of p) ≡ Some q → IsClean c p o → IsClean c q (part k o)
 part_clean c p q k None row at h = λ e m. absurd (cc m)
 part_clean c p q k (Some d) row at h = get_clean c p q k d row at (h d refl)
+
+-- what is there and breaks no rule
+pub clean_some : (c : Context) (p : Place) (d : Data) → NoFault c p d → IsClean c p (Some d)
+clean_some c p d h = λ e same. subst (λ (y : Data). NoFault c p y) (some_same d e same) h
 
 -- ---- numbers and texts
 
@@ -119,11 +124,11 @@ number_kept c q range (Some (string s)) row h = tt
 number_kept c q range (Some (array ds)) row h = tt
 number_kept c q range (Some (object ms)) row h = tt
 
-text_case : (c : Context) (q : Place) (f : Form) (s : List ℕ) → (row_of q).text ≡ Some f → NoFault c q (string s) → text_fault c f s ≡ None
-text_case c q f s row h = ap (λ o. for_some o (broken 1) (λ g. text_fault c g s)) (sym row) ∙ h
+text_case : (c : Context) (q : Place) (f : Form) (s : List ℕ) → (row_of q).text ≡ Some f → NoFault c q (string s) → text_fault whole_table c f s ≡ None
+text_case c q f s row h = ap (λ o. for_some o (broken 1) (λ g. text_fault whole_table c g s)) (sym row) ∙ h
 
 -- what is true of each text of the form that breaks no rule
-pub text_kept : (P : List ℕ → Type 0) (c : Context) (q : Place) (f : Form) (o : Option Data) → (row_of q).text ≡ Some f → ((s : List ℕ) → text_fault c f s ≡ None → P s) → IsClean c q o → IfSome (text_in o) P
+pub text_kept : (P : List ℕ → Type 0) (c : Context) (q : Place) (f : Form) (o : Option Data) → (row_of q).text ≡ Some f → ((s : List ℕ) → text_fault whole_table c f s ≡ None → P s) → IsClean c q o → IfSome (text_in o) P
 text_kept P c q f None row g h = tt
 text_kept P c q f (Some null) row g h = tt
 text_kept P c q f (Some (boolean b)) row g h = tt
@@ -132,13 +137,16 @@ text_kept P c q f (Some (string s)) row g h = g s (text_case c q f s row (h (str
 text_kept P c q f (Some (array ds)) row g h = tt
 text_kept P c q f (Some (object ms)) row g h = tt
 
-pub form_kept : (c : Context) (f : Form) (s : List ℕ) → text_fault c f s ≡ None → IsTrue (has_form f s)
+pub form_kept : (c : Context) (f : Form) (s : List ℕ) → text_fault whole_table c f s ≡ None → IsTrue (has_form f s)
 form_kept c f s h = not_broken (has_form f s) 5 (or_left _ _ h)
 
-pub handler_kept : (c : Context) (f : Form) (s : List ℕ) → text_fault c f s ≡ None → has_handler c f s ≡ true
+pub handler_kept : (c : Context) (f : Form) (s : List ℕ) → text_fault whole_table c f s ≡ None → has_handler c f s ≡ true
 handler_kept c f s h = not_broken (has_handler c f s) 8 (or_right _ _ (or_right _ _ h))
 
 -- ---- items and values
+
+pub all_weaker : {A : Type 0} {P Q : A → Type 0} (xs : List A) → ((x : A) → P x → Q x) → All P xs → All Q xs
+all_weaker xs f h = λ k d lt. f _ (h k d lt)
 
 pub items_clean : (c : Context) (q : Place) (i : ℕ) (ds : Items) → items_fault whole_table c q i ds ≡ None → All (NoFault c q) (items_list ds)
 items_clean c q i no_items h = All-nil (NoFault c q)
@@ -163,6 +171,12 @@ pub values_clean : (c : Context) (es : List Entry) (q : Place) (earlier : List (
 values_clean c es q earlier no_members h = All-nil (NoFault c q)
 values_clean c es q earlier (member k d ms) h =
     All-cons (NoFault c q) d (values_list ms) (placed c (is_target_name k) q d (below_none k _ (or_left _ _ h))) (values_clean c es q (earlier ++ k ∷ []) ms (or_right _ _ h))
+
+-- the values of members whose places are this one
+pub members_clean : (c : Context) (es : List Entry) (ns : Names) (q : Place) → ((again : Bool) (k : List ℕ) (d : Data) → found c es ns again k d ≡ None → NoFault c q d) → (earlier : List (List ℕ)) (ms : Members) → members_fault whole_table c es ns earlier ms ≡ None → All (λ m. NoFault c q m.1) (members_list ms)
+members_clean c es ns q f earlier no_members h = All-nil (λ (m : Named). NoFault c q m.1)
+members_clean c es ns q f earlier (member k d ms) h =
+    All-cons (λ (m : Named). NoFault c q m.1) (k, d) (members_list ms) (f (is_again earlier k) k d (below_none k _ (or_left _ _ h))) (members_clean c es ns q f (earlier ++ k ∷ []) ms (or_right _ _ h))
 
 pub flat_clean : (c : Context) (p q : Place) (ds : List Data) → (row_of p).items ≡ Some q → All (NoFault c p) ds → All (NoFault c q) (flat_map items_of ds)
 flat_clean c p q [] row h = All-nil (NoFault c q)

@@ -2,6 +2,11 @@ mod MemberLemmas
 mod Sizes
 mod WalkLemmas
 mod LowerLemmas
+mod SearchLemmas
 mod CompileLemmas
 mod CleanLemmas
+mod MatchLemmas
+mod DestinationLemmas
 mod KeptLemmas
+mod PlainLemmas
+pub mod PlainPassLemmas

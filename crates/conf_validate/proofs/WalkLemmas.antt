@@ -102,5 +102,5 @@ members_step t c es ns ms i k d again p fault a b h e f =
     ∙ ap (λ x. or_then (below k x) (members_fault t c es ns (names_before i ms ++ k ∷ []) (behind (suc i) ms))) (sym found)
     ∙ ap (λ names. or_then (below k fault) (members_fault t c es ns names (behind (suc i) ms))) (sym (names_before-more ms i k a))
 
-pub object_walk : (c : Context) (p : Place) (ns : Names) (ms : Members) → (row_of p).members ≡ Some ns → value_fault whole_table c p (object ms) ≡ or_then (broken_if (not (has_required (entries_of p) ms)) 3) (or_then (broken_if (not (is_choice_at p ms)) 6) (members_fault whole_table c (entries_of p) ns [] ms))
+pub object_walk : (c : Context) (p : Place) (ns : Names) (ms : Members) → (row_of p).members ≡ Some ns → value_fault whole_table c p (object ms) ≡ or_then (broken_if (not (has_required (entries_of p) ms)) 3) (or_then (broken_if (not (is_choice_at whole_table p ms)) 6) (members_fault whole_table c (entries_of p) ns [] ms))
 object_walk c p ns ms e = rw e refl

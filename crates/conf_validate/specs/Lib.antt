@@ -1,6 +1,9 @@
 pub mod Forms
+pub mod Targets
+pub mod Choices
 pub mod Table
 pub mod Valid
+pub mod Plain
 pub mod Scopes
 pub mod Again
 pub mod Configuration

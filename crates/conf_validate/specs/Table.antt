@@ -1,6 +1,10 @@
 -- The table of the places of a configuration: what may stand at each, and the members of its objects.
-use Rattle.std.specs.Prelude.{ℕ, Bool, true, false, ◌||◌, List, [], ◌∷◌, codes, Option, Some, None, if◌then◌else◌}
+use Rattle.std.specs.Prelude.{ℕ, Bool, true, false, List, [], ◌∷◌, codes, Option, Some, None, if◌then◌else◌}
 use Rattle.std.specs.Str.{bytes_eq}
+use Rattle.serde_json.specs.Data.{Data, Members}
+use Rattle.conf_validate.specs.Choices.{is_choice}
+use Rattle.conf_validate.specs.Forms.{has_form}
+use Rattle.conf_validate.specs.Targets.{is_pass}
 use Rattle.conf_validate.specs.declared.place.Form.{Form}
 use Rattle.conf_validate.specs.declared.place.Form.TheVariants as form
 use Rattle.conf_validate.specs.declared.place.Names.{Names}
@@ -118,30 +122,28 @@ entries_of place.Http = optional (codes "max_body_size") place.MaxBodySize ∷ [
 entries_of place.AccessLog = optional (codes "format") place.Format ∷ []
 entries_of other = []
 
--- ---- tables
-
--- a table says what may stand at a place, and which members the objects with fixed names have
-pub record Table : Type 0 where
-  pub row : Place → Row
-  pub entries : Place → List Entry
-
--- the table of a configuration
-abbrev pub whole_table : Table
-whole_table = record { row = row_of; entries = entries_of }
-
--- the members of the table that knows nothing of access logs, rewritten paths and changed headers
-abbrev pub is_later : List ℕ → Bool
-is_later name =
-    bytes_eq name (codes "access_log") || bytes_eq name (codes "rewrite") || bytes_eq name (codes "response_headers")
-
-abbrev pub without_later : List Entry → List Entry
-without_later [] = []
-without_later (e ∷ es) = if is_later e.name then without_later es else e ∷ without_later es
-
-abbrev pub plain_table : Table
-plain_table = record { row = row_of; entries = λ p. without_later (entries_of p) }
-
 -- the place of the member of this name, if there is one
 abbrev pub place_among : List ℕ → List Entry → Option Place
 place_among name [] = None
 place_among name (e ∷ es) = if bytes_eq name e.name then Some e.place else place_among name es
+
+-- ---- tables
+
+-- a table says what may stand at a place, which members the objects with fixed names have, whether a text has its form
+-- (rule 5), whether a pass leads somewhere in a document (rule 7), and whether an action has one of its choices (rule 6)
+pub record Table : Type 0 where
+  pub row : Place → Row
+  pub entries : Place → List Entry
+  pub is_formed : Form → List ℕ → Bool
+  pub leads : Data → List ℕ → Bool
+  pub is_chosen : Members → Bool
+
+-- the table of a configuration
+abbrev pub whole_table : Table
+whole_table = record {
+  row = row_of;
+  entries = entries_of;
+  is_formed = has_form;
+  leads = is_pass;
+  is_chosen = is_choice;
+}

@@ -1,12 +1,11 @@
 -- Which configurations are valid: the walk from the whole to its parts, and the first rule that it finds broken.
-use Rattle.std.specs.Prelude.{ℕ, ◌+◌, Bool, true, false, not, ◌&&◌, ◌||◌, ◌==◌, nat_le, nat_eq, List, [], ◌∷◌, ◌++◌, drop, codes, Option, Some, None, if◌then◌else◌}
-use Rattle.std.specs.List.{list_any, list_all, flat_map, starts_with}
-use Rattle.std.specs.Option.{is_some}
+use Rattle.std.specs.Prelude.{ℕ, ◌+◌, Bool, true, false, not, ◌&&◌, ◌||◌, ◌==◌, nat_le, List, [], ◌∷◌, ◌++◌, codes, Option, Some, None, if◌then◌else◌}
+use Rattle.std.specs.List.{list_any, list_all, flat_map}
 use Rattle.std.specs.Str.{bytes_eq}
 use Rattle.std.specs.Fmt.{decimal}
 use Rattle.serde_json.specs.Data.{Num, unsigned, negative, float, Data, null, boolean, number, string, array, object, Items, no_items, item, Members, no_members, member}
-use Rattle.serde_json.specs.Find.{get, get_member, as_array, as_object}
-use Rattle.conf_validate.specs.Forms.{has_form, is_listener_name, is_target_name, is_header_name, is_again}
+use Rattle.conf_validate.specs.Choices.{has}
+use Rattle.conf_validate.specs.Forms.{is_listener_name, is_target_name, is_header_name, is_again}
 use Rattle.conf_validate.specs.Table.{Table, Entry, place_among, whole_table}
 use Rattle.conf_validate.specs.declared.fault.Invalid.{Invalid}
 use Rattle.conf_validate.specs.declared.place.Form.{Form}
@@ -47,48 +46,12 @@ abbrev pub for_some : {A : Type 0} → Option A → Option Invalid → (A → Op
 for_some None otherwise f = otherwise
 for_some (Some x) otherwise f = f x
 
--- ---- passes
+-- ---- the rules of one value
 
 -- the document and the names of the handlers
 pub record Context : Type 0 where
   pub document : Data
   pub handlers : List (List ℕ)
-
-abbrev pub routes_of : Data → Option Data
-routes_of document = get (codes "routes") document
-
-abbrev pub is_array : Option Data → Bool
-is_array None = false
-is_array (Some d) = is_some (as_array d)
-
-abbrev pub is_object : Option Data → Bool
-is_object None = false
-is_object (Some d) = is_some (as_object d)
-
--- the value is an object with a member of this name
-abbrev pub has_member : List ℕ → Option Data → Bool
-has_member name None = false
-has_member name (Some d) = is_some (get name d)
-
--- a pass without `$` names the routes, a route or an application of the document
-abbrev pub is_target : Data → List ℕ → Bool
-is_target document pass =
-    (bytes_eq pass (codes "routes") && is_array (get (codes "routes") document))
-    || (starts_with nat_eq pass (codes "routes/") && has_member (drop 7 pass) (get (codes "routes") document))
-    || (starts_with nat_eq pass (codes "applications/") && has_member (drop 13 pass) (get (codes "applications") document))
-
--- a pass with `$` begins with `applications/`, or with `routes/` where the routes have names; neither has a `$`, so they
--- stand before the first one
-abbrev pub may_be_target : Data → List ℕ → Bool
-may_be_target document pass =
-    starts_with nat_eq pass (codes "applications/")
-    || (starts_with nat_eq pass (codes "routes/") && is_object (get (codes "routes") document))
-
-abbrev pub is_pass : Data → List ℕ → Bool
-is_pass document pass =
-    if list_any (λ b. b == 36) pass then may_be_target document pass else is_target document pass
-
--- ---- the rules of one value
 
 -- rule 4: the number is in its range
 abbrev pub is_in_range : Range → Num → Bool
@@ -97,9 +60,9 @@ is_in_range range (negative z) = false
 is_in_range range (float x) = false
 
 -- rule 7: what a pass names is there
-abbrev pub has_target : Context → Form → List ℕ → Bool
-has_target context form.Pass text = is_pass context.document text
-has_target context other text = true
+abbrev pub has_target : Table → Context → Form → List ℕ → Bool
+has_target table context form.Pass text = table.leads context.document text
+has_target table context other text = true
 
 -- rule 8: the handler is there
 abbrev pub has_handler : Context → Form → List ℕ → Bool
@@ -107,33 +70,19 @@ has_handler context form.Handler text = list_any (λ name. bytes_eq name text) c
 has_handler context other text = true
 
 -- rules 5, 7 and 8
-abbrev pub text_fault : Context → Form → List ℕ → Option Invalid
-text_fault context f text =
-    or_then (broken_if (not (has_form f text)) 5)
-    (or_then (broken_if (not (has_target context f text)) 7) (broken_if (not (has_handler context f text)) 8))
-
--- the object has a member of this name
-abbrev pub has : List ℕ → Members → Bool
-has name ms = is_some (get_member name ms)
+abbrev pub text_fault : Table → Context → Form → List ℕ → Option Invalid
+text_fault table context f text =
+    or_then (broken_if (not (table.is_formed f text)) 5)
+    (or_then (broken_if (not (has_target table context f text)) 7) (broken_if (not (has_handler context f text)) 8))
 
 -- rule 3: each required member is there
 abbrev pub has_required : List Entry → Members → Bool
 has_required entries ms = list_all (λ e. not e.required || has e.name ms) entries
 
--- exactly one of the two
-abbrev pub is_one : Bool → Bool → Bool
-is_one a b = if a then not b else b
-
--- rule 6: an action has exactly one of `pass` and `return`, no `location` without `return` and no `rewrite` without `pass`
-abbrev pub is_choice : Members → Bool
-is_choice ms =
-    is_one (has (codes "pass") ms) (has (codes "return") ms)
-    && (not (has (codes "location") ms) || has (codes "return") ms)
-    && (not (has (codes "rewrite") ms) || has (codes "pass") ms)
-
-abbrev pub is_choice_at : Place → Members → Bool
-is_choice_at place.Action ms = is_choice ms
-is_choice_at other ms = true
+-- rule 6: an action has one of its choices
+abbrev pub is_choice_at : Table → Place → Members → Bool
+is_choice_at table place.Action ms = table.is_chosen ms
+is_choice_at table other ms = true
 
 -- rule 2: the place of a member's value, where its name is one of its object's; a header field isn't one again
 abbrev pub place_if : Bool → Place → Option Place
@@ -156,13 +105,13 @@ abbrev mutual
   value_fault table context p (boolean b) = broken 1
   value_fault table context p (number n) =
       for_some (table.row p).number (broken 1) (λ range. broken_if (not (is_in_range range n)) 4)
-  value_fault table context p (string s) = for_some (table.row p).text (broken 1) (λ f. text_fault context f s)
+  value_fault table context p (string s) = for_some (table.row p).text (broken 1) (λ f. text_fault table context f s)
   value_fault table context p (array ds) =
       for_some (table.row p).items (broken 1) (λ q. items_fault table context q 0 ds)
   value_fault table context p (object ms) =
       for_some (table.row p).members (broken 1) (λ ns.
       or_then (broken_if (not (has_required (table.entries p) ms)) 3)
-      (or_then (broken_if (not (is_choice_at p ms)) 6) (members_fault table context (table.entries p) ns [] ms)))
+      (or_then (broken_if (not (is_choice_at table p ms)) 6) (members_fault table context (table.entries p) ns [] ms)))
 
   pub items_fault : Table → Context → Place → ℕ → Items → Option Invalid
   items_fault table context p i no_items = None

@@ -2,6 +2,7 @@
 ghost use Rattle.std.specs.Prelude.{◌≡◌, ◌<◌, length, option_and_then, option_map, slice_get, Some, map, List, ℕ};
 ghost use Rattle.std.specs.Iterator.{AlwaysYields, IsFinite};
 ghost use Rattle.conf_validate.specs.Configuration.{action_goal, changes_at, goal_named, listener_index, plain_goal};
+ghost use Rattle.conf_validate.specs.Kept.{IsKept};
 
 use crate::matching::Match;
 use crate::search::{goal_at, listener_at};
@@ -130,6 +131,13 @@ impl Model for Conf {
 }
 
 impl Conf {
+    /// What each configuration keeps.
+    pub fn is_kept(&self)
+        ensures { IsKept self.now }
+    {
+        let _max_body = self.max_body;
+    }
+
     /// How many applications there are.
     pub fn application_count(&self) -> usize
         ensures { result ≡ length self.now.applications }

@@ -7,6 +7,7 @@ mod conf;
 mod destinations;
 mod fault;
 mod forms;
+mod laws;
 mod lower;
 mod matching;
 mod members;
@@ -24,6 +25,10 @@ mod walk;
 
 pub use conf::{Action, Application, Changes, Conf, Destination, Goal, Listener, Step};
 pub use fault::{ConfFault, Invalid};
+pub use laws::{
+    plain_documents_keep_the_plain_rules, plain_passes_find_their_targets,
+    plain_passes_lead_somewhere,
+};
 pub use matching::{Match, NamedPatterns, NamedSet, NamedSets};
 pub use validation::validate;
 pub use walk::first_fault;

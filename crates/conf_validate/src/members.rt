@@ -2,7 +2,7 @@
 ghost use Rattle.std.specs.Prelude.{◌≡◌, option_map, IfSome, option_and_then};
 ghost use Rattle.conf_tree.specs.Document.{AreMembers, IsDocument};
 ghost use Rattle.conf_tree.specs.View.{data_of, map_data};
-ghost use Rattle.conf_validate.specs.Valid.{has};
+ghost use Rattle.conf_validate.specs.Choices.{has};
 ghost use Rattle.serde_json.specs.Find.{get, get_member};
 
 use conf_tree::{Tree, TreeMap};

@@ -4,7 +4,9 @@ ghost use Rattle.std.specs.Prelude.{◌≡◌, ◌==◌, drop, option_map, IfSom
 ghost use Rattle.conf_tree.specs.Document.{IsDocument};
 ghost use Rattle.conf_tree.specs.View.{data_of};
 ghost use Rattle.conf_validate.specs.Scopes.{context_of, IsScope};
-ghost use Rattle.conf_validate.specs.Valid.{has_handler, has_member, has_target, is_array, is_object, is_pass, is_target, may_be_target};
+ghost use Rattle.conf_validate.specs.Table.{whole_table};
+ghost use Rattle.conf_validate.specs.Targets.{has_member, is_array, is_object, is_pass, is_target, may_be_target};
+ghost use Rattle.conf_validate.specs.Valid.{has_handler, has_target};
 ghost use Rattle.std.specs.Str.{bytes_eq};
 
 use crate::members::member_of;
@@ -23,7 +25,7 @@ impl Scope<'_> {
     /// Whether what a text of this form names, as a pass, is there.
     pub(crate) fn has_target(&self, form: Form, text: &[u8]) -> bool
         requires { IsScope self.now }
-        ensures { result ≡ has_target (context_of self.now) form text.now }
+        ensures { result ≡ has_target whole_table (context_of self.now) form text.now }
     {
         match form {
             Form::Pass => is_pass(self.document, text),

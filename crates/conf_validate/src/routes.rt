@@ -90,12 +90,10 @@ fn push_named(
 {
     let first = steps.len();
     push_route(alloc, steps, route)?;
+    let count = steps.len() - first;
     destinations.push(Destination {
         name: joined(alloc, b"routes/", name)?,
-        goal: Goal::Route {
-            first,
-            count: steps.len() - first,
-        },
+        goal: Goal::Route { first, count },
     })?;
     Ok(())
 }
@@ -151,13 +149,7 @@ fn status_of(number: Option<u64>) -> u16
     ensures { result ≡ status_of number }
 {
     match number {
-        Some(status) => {
-            if status <= 999 {
-                status as u16
-            } else {
-                0
-            }
-        }
+        Some(status) => { if status <= 999 { status as u16 } else { 0 } }
         None => 0,
     }
 }

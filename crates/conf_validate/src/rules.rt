@@ -3,8 +3,9 @@ ghost use Rattle.std.specs.Prelude.{◌≡◌, not};
 ghost use Rattle.conf_tree.specs.Document.{AreMembers};
 ghost use Rattle.conf_tree.specs.View.{map_data};
 ghost use Rattle.conf_validate.specs.Scopes.{context_of, IsScope};
-ghost use Rattle.conf_validate.specs.Table.{entries_of};
-ghost use Rattle.conf_validate.specs.Valid.{broken, broken_if, for_some, has_required, is_choice, is_choice_at, is_in_range, is_one, place_of, text_fault};
+ghost use Rattle.conf_validate.specs.Choices.{is_choice, is_one};
+ghost use Rattle.conf_validate.specs.Table.{entries_of, whole_table};
+ghost use Rattle.conf_validate.specs.Valid.{broken, broken_if, for_some, has_required, is_choice_at, is_in_range, place_of, text_fault};
 ghost use Rattle.serde_json.specs.Find.{of_integer};
 
 use crate::fault::{Invalid, broken_if};
@@ -40,7 +41,7 @@ pub(crate) fn text_fault(
     text: &[u8],
 ) -> Option<Invalid>
     requires { IsScope scope.now }
-    ensures { result ≡ for_some form (broken 1) (λ form. text_fault (context_of scope.now) form text.now) }
+    ensures { result ≡ for_some form (broken 1) (λ form. text_fault whole_table (context_of scope.now) form text.now) }
 {
     let form = match form {
         Some(form) => form,
@@ -73,7 +74,7 @@ pub(crate) fn has_required(place: Place, map: &TreeMap) -> bool
 /// without `pass`.
 pub(crate) fn is_choice_at(place: Place, map: &TreeMap) -> bool
     requires { AreMembers (map_data map.now) }
-    ensures { result ≡ is_choice_at place (map_data map.now) }
+    ensures { result ≡ is_choice_at whole_table place (map_data map.now) }
 {
     match place {
         Place::Action => is_choice(map),

@@ -61,8 +61,9 @@ fn compare<I: Iterator<Item = u8> + Copy>(mut text: I, name: &[u8]) -> Ordering
             return Ordering::Less;
         };
         match byte.cmp(wanted) {
+            Ordering::Less => return Ordering::Less,
             Ordering::Equal => {}
-            other => return other,
+            Ordering::Greater => return Ordering::Greater,
         }
     }
     match text.next() {

@@ -93,7 +93,7 @@ fn object_fault(
 ) -> Result<Option<Invalid>, AllocError>
     requires scope { IsScope scope.now }
     requires members { AreMembers (map_data map.now) }
-    ensures { IfOk result (λ fault. fault ≡ or_then (broken_if (not (has_required (entries_of place) (map_data map.now))) 3) (or_then (broken_if (not (is_choice_at place (map_data map.now))) 6) (members_fault whole_table (context_of scope.now) (entries_of place) names [] (map_data map.now)))) }
+    ensures { IfOk result (λ fault. fault ≡ or_then (broken_if (not (has_required (entries_of place) (map_data map.now))) 3) (or_then (broken_if (not (is_choice_at whole_table place (map_data map.now))) 6) (members_fault whole_table (context_of scope.now) (entries_of place) names [] (map_data map.now)))) }
 {
     if !has_required(place, map) {
         return Ok(Some(Invalid::here(alloc, 3)));

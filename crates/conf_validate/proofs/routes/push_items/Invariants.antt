@@ -2,7 +2,7 @@ use Rattle.std.proofs.Common.{◌≡◌, ◌++◌, drop, map}
 use Rattle.conf_tree.specs.Document.{AreDocuments}
 use Rattle.conf_tree.specs.View.{list_data}
 use Rattle.conf_validate.specs.Configuration.{items_list, step_of}
-use Rattle.conf_validate.proofs.compile.push_items.Given as goal
+use Rattle.conf_validate.proofs.routes.push_items.Given as goal
 
 abbrev pub invariant-loop-item : goal.invariant-loop-item
 invariant-loop-item l = record {

@@ -3,7 +3,7 @@ use Rattle.conf_tree.specs.View.{map_data, value_at}
 use Rattle.conf_validate.specs.Configuration.{changes_list, text_in}
 use Rattle.conf_validate.proofs.CompileLemmas.{changes-more_by_name, ended, one_more}
 use Rattle.conf_validate.proofs.WalkLemmas.{behind, behind-end, behind-past, behind-zero}
-use Rattle.conf_validate.proofs.compile.changes_list.Goals as goal
+use Rattle.conf_validate.proofs.routes.changes_list.Goals as goal
 
 abbrev Change : Type 0
 Change = List ℕ × Option (List ℕ)

@@ -1,8 +1,0 @@
-use Rattle.std.proofs.Common.{◌≡◌, ◌++◌, map}
-use Rattle.conf_tree.specs.View.{map_data}
-use Rattle.conf_validate.specs.Configuration.{application_of, values_list}
-use Rattle.conf_validate.proofs.WalkLemmas.{behind}
-use Rattle.conf_validate.proofs.compile.applications_in.Given as goal
-
-abbrev pub invariant-loop-index : goal.invariant-loop-index
-invariant-loop-index l = l.applications.items ++ map application_of (values_list (behind l.index (map_data l.members))) ≡ map application_of (values_list (map_data l.members))
