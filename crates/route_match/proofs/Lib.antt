@@ -1,2 +1,3 @@
+mod ListenerLemmas
 mod PlainLemmas
 mod WalkLemmas

@@ -188,6 +188,7 @@ fn goal_of(conf: &Conf, known: Option<Goal>, pass: &[u8], request: &Request) -> 
 fn any_address_at(conf: &Conf, port: &[u8]) -> Option<usize>
     ensures { result ≡ any_address_at conf.now port.now }
 {
+    conf.is_kept();
     let found = conf
         .listeners()
         .binary_search_by(|listener| compare_any_address(listener.name.as_slice(), port));
@@ -201,8 +202,8 @@ fn any_address_at(conf: &Conf, port: &[u8]) -> Option<usize>
 fn compare_any_address(name: &[u8], port: &[u8]) -> Ordering
     ensures { result ≡ slice_cmp nat_cmp name.now (42 ∷ 58 ∷ port.now) }
 {
-    match name {
-        [b'*', b':', rest @ ..] => rest.cmp(&port),
-        _ => name.cmp(&b"*:".as_slice()),
+    match name.strip_prefix(b"*:") {
+        Some(rest) => rest.cmp(&port),
+        None => name.cmp(&b"*:".as_slice()),
     }
 }
