@@ -189,13 +189,9 @@ fn any_address_at(conf: &Conf, port: &[u8]) -> Option<usize>
     ensures { result ≡ any_address_at conf.now port.now }
 {
     conf.is_kept();
-    let found = conf
-        .listeners()
-        .binary_search_by(|listener| compare_any_address(listener.name.as_slice(), port));
-    match found {
-        Ok(index) => Some(index),
-        Err(_) => None,
-    }
+    conf.listeners()
+        .binary_search_by(|listener| compare_any_address(listener.name.as_slice(), port))
+        .ok()
 }
 
 /// How the name compares with `*:` and this port, byte by byte.
