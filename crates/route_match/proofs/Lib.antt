@@ -1,3 +1,4 @@
 mod ListenerLemmas
 mod PlainLemmas
+mod ThereLemmas
 mod WalkLemmas

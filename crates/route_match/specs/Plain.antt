@@ -1,10 +1,11 @@
--- Where a request goes that nobody expands anything for: each pass is looked up as it stands.
-use Rattle.std.specs.Prelude.{ℕ, List, Option, All, ◌≢◌}
+-- Where a request goes if no pass has a variable: each pass is looked up as it stands.
+use Rattle.std.specs.Prelude.{ℕ, List, Option, All}
 use Rattle.unit_types.specs.declared.message.Request.{Request}
 use Rattle.conf_validate.specs.declared.conf.Action.{Action}
 use Rattle.conf_validate.specs.declared.conf.Action.TheVariants.{Pass, Return}
 use Rattle.conf_validate.specs.declared.conf.Goal.{Goal}
 use Rattle.conf_validate.specs.Configuration.{Configuration, goal_named}
+use Rattle.conf_validate.specs.Plain.{HasNoDollar}
 use Rattle.route_match.specs.declared.target.Target.{Target}
 use Rattle.route_match.specs.Target.{outcome_by}
 
@@ -17,10 +18,6 @@ plain_target_of conf listener request = (outcome_by (plain_goal_of conf) conf li
 
 abbrev pub plain_last_step_of : Configuration → List ℕ → Request → Option ℕ
 plain_last_step_of conf listener request = (outcome_by (plain_goal_of conf) conf listener request).step
-
--- no byte is a `$`
-abbrev pub HasNoDollar : List ℕ → Type 0
-HasNoDollar text = All (λ b. b ≢ 36) text
 
 abbrev pub HasPlainPass : Action → Type 0
 HasPlainPass (Pass pass) = HasNoDollar pass

@@ -1,7 +1,9 @@
 //! Where a configuration sends a request.
 ghost use Rattle.std.specs.Prelude.{◌≡◌, IfOk};
 ghost use Rattle.route_match.specs.Target.{target_of, last_step_of, location_of};
+ghost use Rattle.route_match.specs.There.{IsTargetThere};
 
+use crate::laws::targets_are_there;
 use crate::walk::outcome_of;
 use conf_validate::Conf;
 use path_normal::expand;
@@ -33,10 +35,14 @@ pub enum Target {
 /// Where a request to this listener goes: the walk over passes, of which the listener's is the first. It takes no memory.
 ///
 /// The listener is the one of exactly this name, else the one named `*:` and the same port, which is what stands behind
-/// the last `:`. Each pass is expanded with the request. A route takes its first step whose conditions hold.
+/// the last `:`. Each pass is expanded with the request. A route takes its first step whose conditions hold. An
+/// application or a step that the target names is there.
 pub fn route(conf: &Conf, listener: &[u8], request: &Request) -> Target
-    ensures { result ≡ target_of conf.now listener.now request.now }
+    ensures target { result ≡ target_of conf.now listener.now request.now }
+    ensures there { IsTargetThere conf.now result }
 {
+    conf.is_kept();
+    targets_are_there();
     outcome_of(conf, listener, request).target
 }
 
