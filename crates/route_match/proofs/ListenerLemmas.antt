@@ -100,5 +100,5 @@ searched name ls (Err i) h within found =
     let parts = found (rises name ls h) in
     nowhere name ls
     (λ k d inside. lt_or_le k i
-        (λ lt. ap is_eq (parts.0 k d (omega arith) lt))
-        (λ ge. ap is_eq (parts.1 k d ge inside)))
+    (λ lt. ap is_eq (parts.0 k d (omega arith) lt))
+    (λ ge. ap is_eq (parts.1 k d ge inside)))

@@ -8,7 +8,7 @@ use Rattle.path_normal.specs.Variables.{expansion_of}
 use Rattle.unit_types.specs.declared.message.Request.{Request}
 use Rattle.conf_validate.specs.declared.conf.Goal.{Goal}
 use Rattle.conf_validate.specs.Configuration.{Configuration, goal_named, plain_goal}
-use Rattle.route_match.specs.Plain.{HasNoDollar}
+use Rattle.conf_validate.specs.Plain.{HasNoDollar}
 use Rattle.route_match.specs.Target.{goal_of}
 
 neither : (a b : Bool) → (a || b) ≡ false → (a ≡ false) × (b ≡ false)

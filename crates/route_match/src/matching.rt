@@ -64,9 +64,14 @@ fn addresses_match(conditions: &Match, request: &Request) -> bool
 fn names_match(conditions: &Match, request: &Request) -> bool
     ensures { result ≡ names_match conditions.now request.now }
 {
-    names_hold(&conditions.arguments, Source::Arguments(request.query.as_slice()))
-        && names_hold(&conditions.cookies, Source::Cookies(&request.fields))
-        && names_hold(&conditions.headers, Source::Headers(request.fields.as_slice()))
+    names_hold(
+        &conditions.arguments,
+        Source::Arguments(request.query.as_slice()),
+    ) && names_hold(&conditions.cookies, Source::Cookies(&request.fields))
+        && names_hold(
+            &conditions.headers,
+            Source::Headers(request.fields.as_slice()),
+        )
 }
 
 fn text_holds(patterns: &Option<TextPatterns>, text: &[u8]) -> bool

@@ -176,15 +176,15 @@ fn with_conditions(alloc: Global, conditions: &str) -> Result<Conf, Fail> {
     configuration(alloc, text.as_slice())
 }
 
-fn meets(
-    rt: &(impl Abort + AllocGlobal),
-    rows: &[(&'static str, bool)],
-) -> Result<(), Fail> {
+fn meets(rt: &(impl Abort + AllocGlobal), rows: &[(&'static str, bool)]) -> Result<(), Fail> {
     let request = request_of(rt.alloc(), &busy())?;
     for (conditions, wanted) in rows {
         let conf = with_conditions(rt.alloc(), conditions)?;
         let step = conf.steps().first().expect(rt, "a step");
-        assert!(rt; request_matches(&step.conditions, &request) == *wanted, "{conditions}");
+        assert!(rt;
+            request_matches(&step.conditions, &request) == *wanted,
+            "{conditions}"
+        );
     }
     Ok(())
 }
@@ -231,8 +231,14 @@ fn row(listener: &'static str, target: Target, step: Option<usize>) -> Case {
 fn goes(rt: &(impl Abort + AllocGlobal), conf: &Conf, row: &Case) -> Result<(), Fail> {
     let request = request_of(rt.alloc(), &row.asked)?;
     let listener = row.listener.as_bytes();
-    assert!(rt; route(conf, listener, &request) == row.target, "another target");
-    assert!(rt; last_step(conf, listener, &request) == row.step, "another step");
+    assert!(rt;
+        route(conf, listener, &request) == row.target,
+        "another target"
+    );
+    assert!(rt;
+        last_step(conf, listener, &request) == row.step,
+        "another step"
+    );
     Ok(())
 }
 

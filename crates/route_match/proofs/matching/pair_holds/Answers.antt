@@ -12,5 +12,5 @@ returns-then-is c =
     let named = c.args.named.now in
     let is : bytes_eq name named.name ≡ true = ap (bytes_eq name) (sym c.as_slice.ensures) ∙ sym c.is.ensures ∙ c.if-is.true in
     let found : c.matches_bytes.result ≡ list_matches named.patterns value =
-        c.matches_bytes.ensures value ((YieldsList-from_first (λ b. b) text_left {s = c.args.pair.value} value refl).runs) in
+    c.matches_bytes.ensures value ((YieldsList-from_first (λ b. b) text_left {s = c.args.pair.value} value refl).runs) in
     found ∙ ap (λ b. b && list_matches named.patterns value) (sym is)
