@@ -8,6 +8,7 @@ mod input;
 mod maps;
 mod records;
 mod rings;
+mod routes;
 mod timing;
 mod traces;
 mod trees;
@@ -15,7 +16,7 @@ mod trees;
 use std::{env, io};
 
 const WORDS: &str =
-    "read-input normal-path matches expand write-record read-record trees ring-alone ring-shared claim check-trace next-head pipelined head-bytes chunk-bytes";
+    "read-input normal-path matches expand write-record read-record trees ring-alone ring-shared claim check-trace next-head pipelined head-bytes chunk-bytes route";
 
 fn run(rt: &HostRuntime, word: &str) -> io::Result<()> {
     match word {
@@ -26,6 +27,7 @@ fn run(rt: &HostRuntime, word: &str) -> io::Result<()> {
         "write-record" => records::write_record_ratio(rt),
         "read-record" => records::read_record_ratio(rt),
         "trees" => trees::measure(rt),
+        "route" => routes::measure(rt),
         _ => println!(rt; "unit_bench: no such word: {word}"),
     }
 }

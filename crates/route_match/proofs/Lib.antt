@@ -1,0 +1,5 @@
+mod ListenerLemmas
+mod PlainLawLemmas
+mod PlainLemmas
+mod ThereLemmas
+mod WalkLemmas

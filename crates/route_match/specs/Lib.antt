@@ -1,0 +1,5 @@
+pub mod Matches
+pub mod Plain
+pub mod Source
+pub mod Target
+pub mod There

@@ -1,0 +1,28 @@
+//! What holds of the definitions themselves: each function's contract is a law, and its body is empty.
+ghost use Rattle.std.specs.Prelude.{◌≡◌, List, ℕ};
+ghost use Rattle.serde_json.specs.Data.{Data};
+ghost use Rattle.unit_types.specs.declared.message.Request.{Request};
+ghost use Rattle.conf_validate.specs.Configuration.{Configuration, configuration_of};
+ghost use Rattle.conf_validate.specs.Kept.{IsKept};
+ghost use Rattle.conf_validate.specs.Plain.{IsPlain};
+ghost use Rattle.route_match.specs.Plain.{HasPlainPasses, plain_last_step_of, plain_target_of};
+ghost use Rattle.route_match.specs.Target.{last_step_of, target_of};
+ghost use Rattle.route_match.specs.There.{IsTargetThere};
+
+/// The application or the step of each target is one of the configuration.
+pub fn targets_are_there()
+    ensures { (conf : Configuration) (listener : List ℕ) (request : Request) → IsKept conf → IsTargetThere conf (target_of conf listener request) }
+{}
+
+/// Where no pass of a listener or a step has a `$`, each target and each last step is that of the walk which looks passes
+/// up as they stand and knows nothing of variables.
+pub fn plain_passes_need_no_variables()
+    ensures target { (conf : Configuration) (listener : List ℕ) (request : Request) → HasPlainPasses conf → target_of conf listener request ≡ plain_target_of conf listener request }
+    ensures step { (conf : Configuration) (listener : List ℕ) (request : Request) → HasPlainPasses conf → last_step_of conf listener request ≡ plain_last_step_of conf listener request }
+{}
+
+/// So it is for each document that is plain.
+pub fn plain_documents_need_no_variables()
+    ensures target { (document : Data) (listener : List ℕ) (request : Request) → IsPlain document → target_of (configuration_of document) listener request ≡ plain_target_of (configuration_of document) listener request }
+    ensures step { (document : Data) (listener : List ℕ) (request : Request) → IsPlain document → last_step_of (configuration_of document) listener request ≡ plain_last_step_of (configuration_of document) listener request }
+{}
