@@ -91,7 +91,7 @@ clean_some c p d h = λ e same. subst (λ (y : Data). NoFault c p y) (some_same 
 
 -- ---- numbers and texts
 
-and_left : (a b : Bool) → (a && b) ≡ true → a ≡ true
+pub and_left : (a b : Bool) → (a && b) ≡ true → a ≡ true
 and_left true b h = refl
 and_left false b h = h
 
@@ -166,6 +166,10 @@ items_of_clean c p q (object ms) row h = All-nil (NoFault c q)
 pub placed : (c : Context) (b : Bool) (q : Place) (d : Data) → for_some (place_if b q) (broken 2) (λ p. value_fault whole_table c p d) ≡ None → NoFault c q d
 placed c true q d h = h
 placed c false q d h = absurd (cc h)
+
+pub is_placed : (c : Context) (b : Bool) (q : Place) (d : Data) → for_some (place_if b q) (broken 2) (λ p. value_fault whole_table c p d) ≡ None → b ≡ true
+is_placed c true q d h = refl
+is_placed c false q d h = absurd (cc h)
 
 pub values_clean : (c : Context) (es : List Entry) (q : Place) (earlier : List (List ℕ)) (ms : Members) → members_fault whole_table c es (names.Target q) earlier ms ≡ None → All (NoFault c q) (values_list ms)
 values_clean c es q earlier no_members h = All-nil (NoFault c q)

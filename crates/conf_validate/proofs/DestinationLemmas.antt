@@ -17,7 +17,7 @@ use Rattle.conf_validate.specs.declared.conf.Destination.{Destination}
 use Rattle.conf_validate.specs.declared.conf.Goal.TheVariants as goal
 use Rattle.conf_validate.specs.declared.conf.Listener.{Listener}
 
-abbrev IsBefore : List ℕ → List ℕ → Type 0
+abbrev pub IsBefore : List ℕ → List ℕ → Type 0
 IsBefore name later = slice_cmp nat_cmp name later ≡ Less
 
 abbrev names_of : List Named → List (List ℕ)
@@ -36,7 +36,7 @@ names_ascend : (ms : Members) → AreMembers ms → Ascends (names_of (members_l
 names_ascend no_members h = tt
 names_ascend (member k d ms) h = (come_after k ms h.2, names_ascend ms h.3)
 
-get_document : (k : List ℕ) (d e : Data) → IsDocument d → get k d ≡ Some e → IsDocument e
+pub get_document : (k : List ℕ) (d e : Data) → IsDocument d → get k d ≡ Some e → IsDocument e
 get_document k null e h at = absurd (cc at)
 get_document k (boolean b) e h at = absurd (cc at)
 get_document k (number n) e h at = absurd (cc at)
@@ -45,7 +45,7 @@ get_document k (array ds) e h at = absurd (cc at)
 get_document k (object ms) e h at = child_document k (object ms) e h at
 
 -- the value is a document, where there is one
-abbrev IsTree : Option Data → Type 0
+abbrev pub IsTree : Option Data → Type 0
 IsTree o = (d : Data) → o ≡ Some d → IsDocument d
 
 member_names_ascend : (o : Option Data) → IsTree o → Ascends (names_of (list_in members_of o))

@@ -19,7 +19,8 @@ use Rattle.conf_validate.specs.declared.place.Form.TheVariants as form
 use Rattle.conf_validate.specs.declared.place.Names.TheVariants as names
 use Rattle.conf_validate.specs.declared.place.Place.TheVariants as place
 use Rattle.conf_validate.proofs.CleanLemmas.{IsClean, NoFault, all_weaker, array_clean, below_none, clean_some, or_left, or_right, flat_clean, form_kept, get_clean, handler_kept, members_clean, number_kept, object_clean, part_clean, placed, text_kept, values_clean}
-use Rattle.conf_validate.proofs.DestinationLemmas.{application_names_ascend, destination_names_ascend, destinations_there, listener_names_ascend}
+use Rattle.conf_validate.proofs.ChangeLemmas.{changes_list_named, part_changes_ascend, steps_documents}
+use Rattle.conf_validate.proofs.DestinationLemmas.{IsTree, application_names_ascend, destination_names_ascend, destinations_there, get_document, listener_names_ascend}
 use Rattle.conf_validate.proofs.MatchLemmas.{match_kept}
 
 -- ---- the rows that are used
@@ -268,6 +269,18 @@ changes_kept c (Some (string s)) h = All-nil IsKeptChange
 changes_kept c (Some (array ds)) h = All-nil IsKeptChange
 changes_kept c (Some (object ms)) h = changes_list_kept c (entries_of place.ResponseHeaders) [] ms (object_clean c place.ResponseHeaders (names.Header place.HeaderText) ms members-ResponseHeaders (h (object ms) refl))
 
+abbrev HasFieldName : List ℕ × Option (List ℕ) → Type 0
+HasFieldName change = IsTrue (is_header_name change.0)
+
+names_kept : (c : Context) (o : Option Data) → IsClean c place.ResponseHeaders o → All HasFieldName (changes_in o)
+names_kept c None h = All-nil HasFieldName
+names_kept c (Some null) h = All-nil HasFieldName
+names_kept c (Some (boolean b)) h = All-nil HasFieldName
+names_kept c (Some (number n)) h = All-nil HasFieldName
+names_kept c (Some (string s)) h = All-nil HasFieldName
+names_kept c (Some (array ds)) h = All-nil HasFieldName
+names_kept c (Some (object ms)) h = changes_list_named c (entries_of place.ResponseHeaders) [] ms (object_clean c place.ResponseHeaders (names.Header place.HeaderText) ms members-ResponseHeaders (h (object ms) refl))
+
 small_if : (n : ℕ) (b : Bool) → nat_le n 999 ≡ b → (if b then n else 0) ≤ 999
 small_if n true h = leb-true _ _ h
 small_if n false h = omega arith
@@ -280,8 +293,8 @@ action_kept : (pass : Option (List ℕ)) (status : Option ℕ) → IfSome pass I
 action_kept (Some s) status h = h
 action_kept None status h = status_small status
 
-step_kept : (c : Context) (d : Data) → NoFault c place.Step d → IsKeptStep (step_of d)
-step_kept c d h =
+step_kept : (c : Context) (d : Data) → IsDocument d → NoFault c place.Step d → IsKeptStep (step_of d)
+step_kept c d tree h =
     let action = get_clean c place.Step place.Action (codes "action") d fixed-Step at-Step-action h in
     record {
       conditions = match_kept c (get (codes "match") d) (get_clean c place.Step place.Match (codes "match") d fixed-Step at-Step-match h);
@@ -289,6 +302,8 @@ step_kept c d h =
       location = text_kept (λ text. IsTrue (is_location text)) c place.Location form.Location _ text-Location (λ s e. form_kept c form.Location s e) (part_clean c place.Action place.Location (codes "location") (get (codes "action") d) fixed-Action at-Action-location action);
       rewrite = text_kept (λ text. IsTrue (is_rewrite text)) c place.Rewrite form.Rewrite _ text-Rewrite (λ s e. form_kept c form.Rewrite s e) (part_clean c place.Action place.Rewrite (codes "rewrite") (get (codes "action") d) fixed-Action at-Action-rewrite action);
       changes = changes_kept c (part (codes "response_headers") (get (codes "action") d)) (part_clean c place.Action place.ResponseHeaders (codes "response_headers") (get (codes "action") d) fixed-Action at-Action-response_headers action);
+      field_names = names_kept c (part (codes "response_headers") (get (codes "action") d)) (part_clean c place.Action place.ResponseHeaders (codes "response_headers") (get (codes "action") d) fixed-Action at-Action-response_headers action);
+      field_order = part_changes_ascend (codes "action") (codes "response_headers") d tree;
     }
 
 routes_clean : (c : Context) (d : Data) → NoFault c place.Routes d → All (NoFault c place.Step) (steps_of_routes d)
@@ -300,10 +315,10 @@ routes_clean c (array ds) h = array_clean c place.Routes place.Step ds items-Rou
 routes_clean c (object ms) h =
     flat_clean c place.Steps place.Step (values_list ms) items-Steps (values_clean c (entries_of place.Routes) place.Steps [] ms (object_clean c place.Routes (names.Target place.Steps) ms members-Routes h))
 
-steps_kept : (c : Context) (o : Option Data) → IsClean c place.Routes o → All IsKeptStep (map step_of (list_in steps_of_routes o))
-steps_kept c None h = All-nil IsKeptStep
-steps_kept c (Some d) h =
-    All-map IsKeptStep step_of (steps_of_routes d) (all_weaker (steps_of_routes d) (λ x e. step_kept c x e) (routes_clean c d (h d refl)))
+steps_kept : (c : Context) (o : Option Data) → IsTree o → IsClean c place.Routes o → All IsKeptStep (map step_of (list_in steps_of_routes o))
+steps_kept c None tree h = All-nil IsKeptStep
+steps_kept c (Some d) tree h =
+    All-map IsKeptStep step_of (steps_of_routes d) (λ i other lt. step_kept c _ (steps_documents d (tree d refl) i other lt) (routes_clean c d (h d refl) i other lt))
 
 -- ---- settings
 
@@ -332,7 +347,7 @@ configuration_kept document handlers tree short h =
       listener_names = listener_names_ascend document tree;
       destinations = destinations_there document;
       destination_names = destination_names_ascend document tree;
-      steps = steps_kept c (get (codes "routes") document) (get_clean c place.Whole place.Routes (codes "routes") document fixed-Whole at-Whole-routes h);
+      steps = steps_kept c (get (codes "routes") document) (λ d at. get_document (codes "routes") document d tree at) (get_clean c place.Whole place.Routes (codes "routes") document fixed-Whole at-Whole-routes h);
       max_body = body_kept _ (number_kept c place.MaxBodySize (record { first = 0; last = 10000000 }) _ number-MaxBodySize (part_clean c place.Http place.MaxBodySize (codes "max_body_size") (part (codes "http") (get (codes "settings") document)) fixed-Http at-Http-max_body_size (part_clean c place.Settings place.Http (codes "http") (get (codes "settings") document) fixed-Settings at-Settings-http (get_clean c place.Whole place.Settings (codes "settings") document fixed-Whole at-Whole-settings h))));
       log_format = format_kept c (get (codes "access_log") document) (get_clean c place.Whole place.AccessLog (codes "access_log") document fixed-Whole at-Whole-access_log h);
     }

@@ -7,6 +7,7 @@ mod CompileLemmas
 mod CleanLemmas
 mod MatchLemmas
 mod DestinationLemmas
+mod ChangeLemmas
 mod KeptLemmas
 mod PlainLemmas
 pub mod PlainPassLemmas

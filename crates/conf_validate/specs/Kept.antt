@@ -5,7 +5,7 @@ use Rattle.std.specs.Cmp.Lexicographic.{slice_cmp}
 use Rattle.std.specs.Ordering.{nat_cmp}
 use Rattle.std.specs.declared.cmp.Ordering.TheVariants.{Less}
 use Rattle.conf_validate.specs.Configuration.{Configuration, action_goal, plain_goal}
-use Rattle.conf_validate.specs.Forms.{has_variables, is_location, is_log_format, is_rewrite, is_text_pattern}
+use Rattle.conf_validate.specs.Forms.{has_variables, is_header_name, is_location, is_log_format, is_rewrite, is_text_pattern}
 use Rattle.conf_validate.specs.declared.conf.Action.{Action}
 use Rattle.conf_validate.specs.declared.conf.Action.TheVariants.{Pass, Return}
 use Rattle.conf_validate.specs.declared.conf.Application.{Application}
@@ -62,6 +62,8 @@ pub record IsKeptStep (step : Step) : Type 0 where
   pub location : IfSome step.location (λ text. IsTrue (is_location text))
   pub rewrite : IfSome step.rewrite (λ text. IsTrue (is_rewrite text))
   pub changes : All (λ change. IfSome change.1 (λ text. IsTrue (is_location text))) step.changes
+  pub field_names : All (λ change. IsTrue (is_header_name change.0)) step.changes
+  pub field_order : Ascends (map (λ change. change.0) step.changes)
 
 -- ---- the whole
 
