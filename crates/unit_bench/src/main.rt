@@ -12,11 +12,12 @@ mod routes;
 mod timing;
 mod traces;
 mod trees;
+mod validations;
 
 use std::{env, io};
 
 const WORDS: &str =
-    "read-input normal-path matches expand write-record read-record trees ring-alone ring-shared claim check-trace next-head pipelined head-bytes chunk-bytes route";
+    "read-input normal-path matches expand write-record read-record trees ring-alone ring-shared claim check-trace next-head pipelined head-bytes chunk-bytes route validate";
 
 fn run(rt: &HostRuntime, word: &str) -> io::Result<()> {
     match word {
@@ -28,6 +29,7 @@ fn run(rt: &HostRuntime, word: &str) -> io::Result<()> {
         "read-record" => records::read_record_ratio(rt),
         "trees" => trees::measure(rt),
         "route" => routes::measure(rt),
+        "validate" => validations::measure(rt),
         _ => println!(rt; "unit_bench: no such word: {word}"),
     }
 }
