@@ -11,6 +11,7 @@ use Rattle.conf_validate.specs.Configuration.{items_list, list_in, part, steps_o
 use Rattle.conf_validate.specs.Forms.{is_address_pattern, is_in_line, is_text_pattern}
 use Rattle.conf_validate.specs.Table.{Entry, Table, a_number, a_text, a_text_or_array, an_array, an_object, an_object_or_array, nothing, optional, required}
 use Rattle.conf_validate.specs.Targets.{is_target}
+use Rattle.conf_validate.specs.declared.conf.Step.{Step}
 use Rattle.conf_validate.specs.declared.place.Form.{Form}
 use Rattle.conf_validate.specs.declared.place.Form.TheVariants as form
 use Rattle.conf_validate.specs.declared.place.Names.TheVariants as names
@@ -139,6 +140,10 @@ pub record IsPlain (document : Data) : Type 0 where
   pub listeners : All IsPlainListener (listeners_in document)
   pub steps : All IsPlainStep (steps_in document)
   pub access_log : get (codes "access_log") document ≡ None
+
+-- a step that rewrites no path and changes no field
+abbrev pub ChangesNothing : Step → Type 0
+ChangesNothing step = (step.rewrite ≡ None) × (step.changes ≡ [])
 
 -- ---- where the passes of a document lead
 

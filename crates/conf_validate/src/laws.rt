@@ -2,7 +2,8 @@
 ghost use Rattle.std.specs.Prelude.{◌≡◌, All, List, None, ℕ};
 ghost use Rattle.serde_json.specs.Data.{Data};
 ghost use Rattle.conf_tree.specs.Document.{IsDocument};
-ghost use Rattle.conf_validate.specs.Plain.{Finds, IsPlain, Leads, passes_of, plain_table};
+ghost use Rattle.conf_validate.specs.Configuration.{configuration_of};
+ghost use Rattle.conf_validate.specs.Plain.{ChangesNothing, Finds, IsPlain, Leads, passes_of, plain_table};
 ghost use Rattle.conf_validate.specs.Valid.{fault_by, fault_of};
 
 /// Where no pass and no location of a document has a `$`, the whole has no `access_log`, and no action a `rewrite` or
@@ -11,7 +12,13 @@ pub fn plain_documents_keep_the_plain_rules()
     ensures { (document : Data) (handlers : List (List ℕ)) → IsDocument document → IsPlain document → fault_of document handlers ≡ fault_by plain_table document handlers }
 {}
 
-/// In a valid document that is plain in this sense, each pass of a listener or of a step's action names the routes, which
+/// The configuration of a document that is plain in this sense has no log, and its steps rewrite and change nothing.
+pub fn plain_documents_change_nothing()
+    ensures log { (document : Data) → IsPlain document → (configuration_of document).log_format ≡ None }
+    ensures steps { (document : Data) → IsPlain document → All ChangesNothing (configuration_of document).steps }
+{}
+
+/// In a valid document that is plain, each pass of a listener or of a step's action names the routes, which
 /// are an array, or a route or an application that is there.
 pub fn plain_passes_find_their_targets()
     ensures { (document : Data) (handlers : List (List ℕ)) → IsPlain document → fault_of document handlers ≡ None → All (Finds document) (passes_of document) }

@@ -26,8 +26,8 @@ mod walk;
 pub use conf::{Action, Application, Changes, Conf, Destination, Goal, Listener, Step};
 pub use fault::{ConfFault, Invalid};
 pub use laws::{
-    plain_documents_keep_the_plain_rules, plain_passes_find_their_targets,
-    plain_passes_lead_somewhere,
+    plain_documents_change_nothing, plain_documents_keep_the_plain_rules,
+    plain_passes_find_their_targets, plain_passes_lead_somewhere,
 };
 pub use matching::{Match, NamedPatterns, NamedSet, NamedSets};
 pub use validation::validate;
