@@ -131,7 +131,8 @@ impl Model for Conf {
 }
 
 impl Conf {
-    /// What each configuration keeps.
+    /// What each configuration keeps, as a fact of its value: ranges, forms of texts, the order of names, and that
+    /// destinations lead to what is there. It does nothing.
     pub fn is_kept(&self)
         ensures { IsKept self.now }
     {
