@@ -28,10 +28,13 @@ behind_last_colon (b ∷ bs) = option_or (behind_last_colon bs) (if b == 58 then
 abbrev pub any_address_at : Configuration → List ℕ → Option ℕ
 any_address_at conf port = listener_index (42 ∷ 58 ∷ port) conf.listeners
 
+-- the index of the listener `*:` with the port of this name, which is what stands behind its last `:`
+abbrev pub any_address_for : Configuration → List ℕ → Option ℕ
+any_address_for conf name = option_and_then (any_address_at conf) (behind_last_colon name)
+
 -- the index of the listener of exactly this name, else of the one named `*:` and the same port
 abbrev pub listener_for : Configuration → List ℕ → Option ℕ
-listener_for conf name =
-    option_or (listener_index name conf.listeners) (option_and_then (any_address_at conf) (behind_last_colon name))
+listener_for conf name = option_or (listener_index name conf.listeners) (any_address_for conf name)
 
 -- ---- one pass
 

@@ -41,6 +41,7 @@ pub fn route(conf: &Conf, listener: &[u8], request: &Request) -> Target
     ensures target { result ≡ target_of conf.now listener.now request.now }
     ensures there { IsTargetThere conf.now result }
 {
+    // Where a configuration's passes lead is there, and so its targets are.
     conf.is_kept();
     targets_are_there();
     outcome_of(conf, listener, request).target

@@ -3,7 +3,7 @@ ghost use Rattle.std.specs.Prelude.{◌≡◌, ◌∷◌, MatchOption, Some, Non
 ghost use Rattle.std.specs.Cmp.Lexicographic.{slice_cmp};
 ghost use Rattle.std.specs.Ordering.{nat_cmp};
 ghost use Rattle.conf_validate.specs.Configuration.{plain_goal};
-ghost use Rattle.route_match.specs.Target.{any_address_at, behind_last_colon, listener_for, step_taken, timeout_of, arrived, refused, goal_of, at_action, advance, walk, outcome_of};
+ghost use Rattle.route_match.specs.Target.{any_address_at, any_address_for, behind_last_colon, listener_for, step_taken, timeout_of, arrived, refused, goal_of, at_action, advance, walk, outcome_of};
 
 use crate::matching::request_matches;
 use crate::target::Target;
@@ -55,6 +55,13 @@ fn listener_for(conf: &Conf, name: &[u8]) -> Option<usize>
     if let Some(index) = conf.listener(name) {
         return Some(index);
     }
+    any_address_for(conf, name)
+}
+
+/// The index of the listener named `*:` and the port of this name.
+fn any_address_for(conf: &Conf, name: &[u8]) -> Option<usize>
+    ensures { result ≡ any_address_for conf.now name.now }
+{
     any_address_at(conf, behind_last_colon(name)?)
 }
 
@@ -188,6 +195,7 @@ fn goal_of(conf: &Conf, known: Option<Goal>, pass: &[u8], request: &Request) -> 
 fn any_address_at(conf: &Conf, port: &[u8]) -> Option<usize>
     ensures { result ≡ any_address_at conf.now port.now }
 {
+    // The search needs that the names ascend.
     conf.is_kept();
     conf.listeners()
         .binary_search_by(|listener| compare_any_address(listener.name.as_slice(), port))
