@@ -1,4 +1,5 @@
 mod ListenerLemmas
+mod LocationLemmas
 mod PlainLawLemmas
 mod PlainLemmas
 mod ThereLemmas

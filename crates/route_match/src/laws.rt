@@ -1,12 +1,12 @@
 //! What holds of the definitions themselves: each function's contract is a law, and its body is empty.
-ghost use Rattle.std.specs.Prelude.{◌≡◌, List, ℕ};
+ghost use Rattle.std.specs.Prelude.{◌≡◌, All, List, ℕ};
 ghost use Rattle.serde_json.specs.Data.{Data};
 ghost use Rattle.unit_types.specs.declared.message.Request.{Request};
 ghost use Rattle.conf_validate.specs.Configuration.{Configuration, configuration_of};
 ghost use Rattle.conf_validate.specs.Kept.{IsKept};
 ghost use Rattle.conf_validate.specs.Plain.{IsPlain};
-ghost use Rattle.route_match.specs.Plain.{HasPlainPasses, plain_last_step_of, plain_target_of};
-ghost use Rattle.route_match.specs.Target.{last_step_of, target_of};
+ghost use Rattle.route_match.specs.Plain.{HasPlainLocation, HasPlainPasses, plain_last_step_of, plain_location_of, plain_target_of};
+ghost use Rattle.route_match.specs.Target.{last_step_of, location_of, target_of};
 ghost use Rattle.route_match.specs.There.{IsTargetThere};
 
 /// The application or the step of each target is one of the configuration.
@@ -21,8 +21,14 @@ pub fn plain_passes_need_no_variables()
     ensures step { (conf : Configuration) (listener : List ℕ) (request : Request) → HasPlainPasses conf → last_step_of conf listener request ≡ plain_last_step_of conf listener request }
 {}
 
+/// Where no location has a `$`, the location of a step's reply is its text as it stands.
+pub fn plain_locations_stay()
+    ensures { (conf : Configuration) (step : ℕ) (request : Request) → All HasPlainLocation conf.steps → location_of conf step request ≡ plain_location_of conf step }
+{}
+
 /// So it is for each document that is plain.
 pub fn plain_documents_need_no_variables()
     ensures target { (document : Data) (listener : List ℕ) (request : Request) → IsPlain document → target_of (configuration_of document) listener request ≡ plain_target_of (configuration_of document) listener request }
     ensures step { (document : Data) (listener : List ℕ) (request : Request) → IsPlain document → last_step_of (configuration_of document) listener request ≡ plain_last_step_of (configuration_of document) listener request }
+    ensures location { (document : Data) (step : ℕ) (request : Request) → IsPlain document → location_of (configuration_of document) step request ≡ plain_location_of (configuration_of document) step }
 {}

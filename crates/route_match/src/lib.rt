@@ -9,7 +9,8 @@ mod tests;
 mod walk;
 
 pub use laws::{
-    plain_documents_need_no_variables, plain_passes_need_no_variables, targets_are_there,
+    plain_documents_need_no_variables, plain_locations_stay, plain_passes_need_no_variables,
+    targets_are_there,
 };
 pub use matching::request_matches;
 pub use target::{Target, last_step, location_of, route};
