@@ -7,7 +7,6 @@ use Rattle.httparse.specs.Grammar.{RequestHead, field_value, trim_ows}
 use Rattle.httparse.specs.Grammar as grammar
 use Rattle.httparse.specs.Spans.{span_bytes}
 use Rattle.httparse.specs.declared.spans.HeaderSpan.{HeaderSpan}
-use Rattle.http_header.specs.FieldName.{IsFieldName}
 use Rattle.unit_types.specs.declared.field.Field.{Field}
 use Rattle.unit_types.specs.declared.message.Addr.{Addr}
 use Rattle.unit_types.specs.declared.message.Request.{Request}
@@ -23,12 +22,9 @@ field_of f = record { name = lowercase f.name; value = field_value f }
 abbrev pub fields_of : RequestHead → List Field
 fields_of h = map field_of h.fields
 
--- the field whose parts stand at these places of a block, and that its name is one
+-- the field whose parts stand at these places of a block
 abbrev pub field_at : List ℕ → HeaderSpan → Field
 field_at block header = record { name = lowercase (span_bytes block header.name); value = span_bytes block header.value }
-
-abbrev pub HasFieldName : List ℕ → HeaderSpan → Type 0
-HasFieldName block header = IsFieldName (span_bytes block header.name)
 
 -- whether the text ends in that byte
 abbrev pub ends_in : ℕ → List ℕ → Bool

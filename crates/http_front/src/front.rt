@@ -130,7 +130,6 @@ fn read_block(
     max_body: u64,
 ) -> Result<Step, AllocError>
     requires no_empty_line { blank_len block.now ≡ 0 }
-    requires short { length block.now ≤ 16384 }
     requires fits { used + length rest.now < 2 ^ 64 }
     ensures told { IfOk result (λ step. step.told ≡ told_of from to true (spec.block_unit (checks.has_too_many_lines block.now) max_body used rest.now ended (head_of block.now))) }
     ensures progress { IfOk result (λ step. TellsBehind step.progress used (λ bytes. spec.block_unit (checks.has_too_many_lines block.now) max_body used bytes false (head_of block.now)) step.told.is_due) }

@@ -1,9 +1,7 @@
 //! A request out of its head (RFC 9110, section 7; RFC 9112, section 3).
 ghost use Rattle.std.specs.Prelude.{◌≡◌, ◌≤◌, [], length, map, All, IfOk};
 ghost use Rattle.httparse.specs.Spans.{IsRequestAt, IsRequestWithin, IsHeaderWithin};
-ghost use Rattle.http_header.specs.FieldName.{IsFieldName};
 ghost use Rattle.http_front.specs.Head.{head_in};
-ghost use Rattle.http_front.specs.Text.{lowercase};
 ghost use Rattle.http_front.specs.Message as spec;
 
 use crate::host::{host_of, lowercase};
@@ -22,7 +20,6 @@ pub(crate) fn request_of(
     spans: &RequestSpans,
     headers: &[HeaderSpan],
 ) -> Result<Request, AllocError>
-    requires short { length block.now ≤ 16384 }
     requires at { IsRequestAt block.now headers.now spans.now (head_in block.now) }
     requires within { IsRequestWithin block.now headers.now spans.now }
     ensures { IfOk result (λ r. r ≡ spec.request_of from to (spec.message_of (head_in block.now) [])) }
@@ -44,8 +41,7 @@ pub(crate) fn request_of(
 }
 
 fn fields_of(alloc: Global, block: &[u8], headers: &[HeaderSpan]) -> Result<Fields, AllocError>
-    requires within { All (IsHeaderWithin (length block.now)) headers.now }
-    requires names { All (spec.HasFieldName block.now) headers.now }
+    requires { All (IsHeaderWithin (length block.now)) headers.now }
     ensures { IfOk result (λ fields. fields ≡ map (spec.field_at block.now) headers.now) }
 {
     let mut fields = Vec::with_capacity(alloc, headers.len())?;
@@ -56,20 +52,11 @@ fn fields_of(alloc: Global, block: &[u8], headers: &[HeaderSpan]) -> Result<Fiel
 }
 
 fn field_at(alloc: Global, block: &[u8], header: HeaderSpan) -> Result<Field, AllocError>
-    requires within { IsHeaderWithin (length block.now) header }
-    requires named { spec.HasFieldName block.now header }
+    requires { IsHeaderWithin (length block.now) header }
     ensures { IfOk result (λ field. field ≡ spec.field_at block.now header) }
 {
     Ok(Field {
-        name: lower_name(alloc, header.name.of(block))?,
+        name: lowercase(alloc, header.name.of(block))?,
         value: Bytes::copy_of(alloc, header.value.of(block))?,
     })
-}
-
-// the name of a field in lower case; the only error left is want of memory
-fn lower_name(alloc: Global, name: &[u8]) -> Result<Bytes, AllocError>
-    requires { IsFieldName name.now }
-    ensures { IfOk result (λ lower. lower ≡ lowercase name.now) }
-{
-    lowercase(alloc, name)
 }

@@ -24,12 +24,6 @@ read_block-requires-clause-no_empty_line c =
     let rest = c.behind-rest.ensures ∙ ap (λ n. drop n c.args.bytes.now) c.blank_len-blank.ensures.value in
     ap blank_len (c.first_bytes-in-Some.ensures ∙ ap (take c.in-Some.size) rest) ∙ blank_taken c.in-Some.size (drop (blank_len c.args.bytes.now) c.args.bytes.now) (blank_dropped c.args.bytes.now)
 
-pub read_block-requires-clause-short : goal.read_block-requires-clause-short
-read_block-requires-clause-short c =
-    let within = rw c.first_bytes.ensures at c.in-Some.ensures.fits in
-    rw c.first_bytes-in-Some.ensures
-    (omega (arith, within, length-take 16384 c.behind-rest.result.now, length-take c.in-Some.size c.behind-rest.result.now))
-
 pub read_block-requires-clause-fits : goal.read_block-requires-clause-fits
 read_block-requires-clause-fits c =
     let within = rw (c.first_bytes.ensures, c.behind-rest.ensures) at c.in-Some.ensures.fits in

@@ -1,19 +1,15 @@
-use Rattle.std.proofs.Common.{◌≡◌, ◌∙◌, ap, refl, arith}
+use Rattle.std.proofs.Common.{◌≡◌, ◌∙◌, ap, refl}
 use Rattle.unit_types.specs.declared.message.Request.{Request}
 use Rattle.http_front.specs.Head.{head_in}
 use Rattle.path_normal.specs.Path.{normal_path_of}
 use Rattle.http_front.specs.Target.{raw_path_of, query_of}
 use Rattle.http_front.specs.Message.{host_of}
-use Rattle.http_front.proofs.RequestLemmas.{request_fields, request_names}
+use Rattle.http_front.proofs.RequestLemmas.{request_fields}
 use Rattle.http_front.proofs.request.request_of.Goals as goal
 
 same_request : (r q : Request) → r.method ≡ q.method → r.target ≡ q.target → r.path ≡ q.path → r.query ≡ q.query → r.host ≡ q.host
     → r.minor ≡ q.minor → r.fields ≡ q.fields → r.from ≡ q.from → r.to ≡ q.to → r.body ≡ q.body → r ≡ q
 same_request r q m t p y h v f a b c = λ i. record { method = m i; target = t i; path = p i; query = y i; host = h i; minor = v i; fields = f i; from = a i; to = b i; body = c i }
-
-pub fields_of-requires-clause-names : goal.fields_of-requires-clause-names
-fields_of-requires-clause-names c =
-    request_names c.args.block.now c.args.headers.now c.args.spans.now (head_in c.args.block.now) (omega arith) c.requires.at
 
 pub returns : goal.returns
 returns c =
