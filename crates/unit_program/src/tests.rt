@@ -120,6 +120,38 @@ fn pipelined_pair(rt: HostRuntime) {
     assert!(rt; outcome.out.as_slice().ends_with(GREETED));
 }
 
+// The bytes so many times, behind those that are there.
+fn put_times(out: &mut Bytes, piece: &[u8], times: usize) -> Result<(), AllocError> {
+    for _ in 0..times {
+        out.append(piece)?;
+    }
+    Ok(())
+}
+
+#[test]
+fn a_thousand_and_one_requests(rt: HostRuntime) {
+    let closing =
+        b"HTTP/1.1 200 OK\r\nContent-Type: text/plain\r\nContent-Length: 14\r\nConnection: close\r\n\r\nHello, world!\n";
+    let mut input = Bytes::copy_of(rt.alloc(), b"").expect(&rt, "memory");
+    put_times(&mut input, GET, 1001).expect(&rt, "memory");
+    let mut wanted = Bytes::copy_of(rt.alloc(), b"").expect(&rt, "memory");
+    put_times(&mut wanted, GREETED, 999).expect(&rt, "memory");
+    wanted.append(closing).expect(&rt, "memory");
+    let outcome = once(&rt, input.as_slice()).expect(&rt, "memory");
+    assert!(rt; outcome.out.as_slice().len() == 79_019);
+    assert!(rt; outcome.is(0, wanted.as_slice(), b""));
+}
+
+#[test]
+fn the_largest_content(rt: HostRuntime) {
+    let head = b"POST / HTTP/1.1\r\nHost: a\r\nContent-Length: 8388608\r\n\r\n";
+    let wanted =
+        b"HTTP/1.1 200 OK\r\nContent-Type: text/plain\r\nContent-Length: 8\r\n\r\n8388608\n";
+    let mut input = Bytes::copy_of(rt.alloc(), head).expect(&rt, "memory");
+    put_times(&mut input, b"sixteen letters!", 524_288).expect(&rt, "memory");
+    assert!(rt; answers(&rt, "count", input.as_slice(), wanted).expect(&rt, "memory"));
+}
+
 #[test]
 fn chunked_content_with_a_trailer(rt: HostRuntime) {
     let input =
