@@ -10,11 +10,12 @@ mod rings;
 mod timing;
 mod traces;
 mod trees;
+mod validations;
 
 use std::{env, io};
 
 const WORDS: &str =
-    "read-input normal-path matches expand write-record read-record trees ring-alone ring-shared claim check-trace";
+    "read-input normal-path matches expand write-record read-record trees validate ring-alone ring-shared claim check-trace";
 
 fn run(rt: &HostRuntime, word: &str) -> io::Result<()> {
     match word {
@@ -25,6 +26,7 @@ fn run(rt: &HostRuntime, word: &str) -> io::Result<()> {
         "write-record" => records::write_record_ratio(rt),
         "read-record" => records::read_record_ratio(rt),
         "trees" => trees::measure(rt),
+        "validate" => validations::measure(rt),
         _ => println!(rt; "unit_bench: no such word: {word}"),
     }
 }
