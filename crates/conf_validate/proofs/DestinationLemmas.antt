@@ -10,7 +10,7 @@ use Rattle.serde_json.specs.Find.{get}
 use Rattle.conf_tree.proofs.Documents.{child_document}
 use Rattle.conf_tree.specs.Document.{AreMembers, ComeAfter, IsDocument}
 use Rattle.conf_tree.specs.View.{Named}
-use Rattle.conf_validate.specs.Configuration.{Configuration, application_destinations, application_of, applications_of, configuration_of, destinations_of, destinations_of_routes, items_list, items_of, list_in, listener_of, listeners_of, members_in, members_list, members_of, route_destinations, steps_of, step_of, steps_of_routes, values_list}
+use Rattle.conf_validate.specs.Configuration.{Configuration, application_destinations, application_of, applications_of, configuration_of, destinations_of, destinations_of_routes, items_list, items_of, list_in, listener_of, listeners_of, members_in, members_list, members_of, route_destinations, step_of, steps_of_routes, values_list}
 use Rattle.conf_validate.specs.Kept.{Ascends, IsThere}
 use Rattle.conf_validate.specs.declared.conf.Application.{Application}
 use Rattle.conf_validate.specs.declared.conf.Destination.{Destination}

@@ -11,11 +11,12 @@ mod routes;
 mod timing;
 mod traces;
 mod trees;
+mod validations;
 
 use std::{env, io};
 
 const WORDS: &str =
-    "read-input normal-path matches expand write-record read-record trees ring-alone ring-shared claim check-trace route";
+    "read-input normal-path matches expand write-record read-record trees validate route ring-alone ring-shared claim check-trace";
 
 fn run(rt: &HostRuntime, word: &str) -> io::Result<()> {
     match word {
@@ -26,6 +27,7 @@ fn run(rt: &HostRuntime, word: &str) -> io::Result<()> {
         "write-record" => records::write_record_ratio(rt),
         "read-record" => records::read_record_ratio(rt),
         "trees" => trees::measure(rt),
+        "validate" => validations::measure(rt),
         "route" => routes::measure(rt),
         _ => println!(rt; "unit_bench: no such word: {word}"),
     }

@@ -1,4 +1,4 @@
-use Rattle.std.proofs.Common.{◌≡◌, ◌∙◌, ◌+◌, ◌++◌, ◌∷◌, [], ℕ, List, suc, map, sym, ap, ap₂, arith}
+use Rattle.std.proofs.Common.{◌≡◌, ◌∙◌, ◌+◌, ◌++◌, ◌∷◌, [], ℕ, List, suc, map, sym, ap, arith}
 use Rattle.conf_tree.specs.View.{data_of, map_data}
 use Rattle.conf_validate.specs.Configuration.{application_of, members_list}
 use Rattle.conf_validate.specs.declared.conf.Application.{Application}

@@ -1,4 +1,4 @@
-use Rattle.std.proofs.Common.{◌≡◌, ◌+◌, ◌-◌, ◌/◌, ◌<◌, ℕ, List, [], length, get_or, Less, Equal, Greater, ap, sym, ◌∙◌, arith}
+use Rattle.std.proofs.Common.{◌≡◌, ◌+◌, ◌-◌, ◌/◌, ◌<◌, ℕ, List, [], length, get_or, ap, sym, ◌∙◌, arith}
 use Rattle.std.proofs.lemmas.List.{get_or-map, length-map}
 use Rattle.conf_validate.specs.declared.conf.Destination.{Destination}
 use Rattle.conf_validate.proofs.SearchLemmas.{compared, destination_names, goal_found, goal_nowhere, higher, lower, nowhere}

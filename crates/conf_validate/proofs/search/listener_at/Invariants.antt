@@ -1,4 +1,4 @@
-use Rattle.std.proofs.Common.{◌≤◌, ◌-◌, ℕ, length}
+use Rattle.std.proofs.Common.{◌≤◌, ◌-◌, length}
 use Rattle.conf_validate.proofs.SearchLemmas.{LiesBefore, LiesBehind, listener_names}
 use Rattle.conf_validate.proofs.search.listener_at.Given as goal
 
