@@ -1,5 +1,5 @@
 -- Where the values of names come from.
-use Rattle.std.specs.Prelude.{ℕ, List}
+use Rattle.std.specs.Prelude.{List}
 use Rattle.path_normal.specs.Pairs.{arguments_of, cookies_of}
 use Rattle.pattern_text.specs.TextPattern.{list_matches, list_matches_ignoring_case}
 use Rattle.unit_types.specs.declared.field.Field.{Field}

@@ -19,19 +19,36 @@ const RUNS: u32 = 400;
 /// How many steps the configuration has, each with a host and a path.
 const STEPS: u32 = 1000;
 
-/// The path of the request and of every step.
-const PATH: &str = "/articles/latest";
+/// The paths of the steps.
+#[derive(Clone, Copy, Drop)]
+enum Paths {
+    /// Each step has its own, so that most steps are left at their path.
+    Own,
+    /// All have one, so that the host of each step is compared too.
+    Same,
+}
 
-/// Prints how many times as long a request takes whose host is that of the last step alone as a loop that compares its
-/// host and its path with those of all steps.
+/// Prints how many times as long a request to the last step takes as a loop that compares its host and its path with
+/// those of all steps.
 pub fn measure<R: Print + Clock + AllocGlobal>(rt: &R) -> io::Result<()> {
-    let conf = configuration(rt.alloc())?;
-    let hosts = hosts(rt.alloc())?;
-    let paths = paths(rt.alloc())?;
-    let request = request(rt.alloc())?;
+    measure_paths(rt, "route", Paths::Own, 400)?;
+    measure_paths(rt, "route, all paths the same", Paths::Same, 800)
+}
+
+fn measure_paths<R: Print + Clock + AllocGlobal>(
+    rt: &R,
+    name: &str,
+    paths: Paths,
+    most: u64,
+) -> io::Result<()> {
+    let alloc = rt.alloc();
+    let conf = configuration(alloc, paths)?;
+    let host_list = hosts(alloc)?;
+    let path_list = path_texts(alloc, paths)?;
+    let request = request(alloc, paths)?;
     let routed = routed(rt, &conf, &request)?;
-    let compared = compared(rt, &hosts, &paths, &request)?;
-    report(rt, "route", routed, compared, 400)
+    let compared = compared(rt, &host_list, &path_list, &request)?;
+    report(rt, name, routed, compared, most)
 }
 
 fn routed<R: Clock>(rt: &R, conf: &Conf, request: &Request) -> io::Result<u64> {
@@ -64,7 +81,7 @@ fn compared<R: Clock>(
         let same_hosts = equal_texts(hosts, &request.host);
         let same_paths = equal_texts(paths, &request.path);
         let time = nanos_since(rt, &start)?;
-        least = best(least, time, same_hosts == 1 && same_paths == 1000);
+        least = best(least, time, same_hosts == 1 && same_paths > 0);
     }
     Ok(least)
 }
@@ -86,20 +103,29 @@ fn hosts(alloc: Global) -> Result<Vec<Bytes>, AllocError> {
     Ok(list)
 }
 
-fn paths(alloc: Global) -> Result<Vec<Bytes>, AllocError> {
+/// The path of a step.
+fn path(alloc: Global, paths: Paths, step: u32) -> Result<String, AllocError> {
+    match paths {
+        Paths::Own => format!(in alloc; "/articles/of-{:04}", step),
+        Paths::Same => format!(in alloc; "/articles/of-today"),
+    }
+}
+
+fn path_texts(alloc: Global, paths: Paths) -> Result<Vec<Bytes>, AllocError> {
     let mut list = Vec::new(alloc);
-    for _ in 0..STEPS {
-        list.push(Bytes::copy_of(alloc, PATH.as_bytes())?)?;
+    for step in 0..STEPS {
+        list.push(Bytes::copy_of(alloc, path(alloc, paths, step)?.as_bytes())?)?;
     }
     Ok(list)
 }
 
-fn request(alloc: Global) -> Result<Request, AllocError> {
+fn request(alloc: Global, paths: Paths) -> Result<Request, AllocError> {
+    let path = path(alloc, paths, STEPS - 1)?;
     let address = Addr { ip: 0, port: 80 };
     Ok(Request {
         method: Bytes::copy_of(alloc, b"GET")?,
-        target: Bytes::copy_of(alloc, PATH.as_bytes())?,
-        path: Bytes::copy_of(alloc, PATH.as_bytes())?,
+        target: Bytes::copy_of(alloc, path.as_bytes())?,
+        path: Bytes::copy_of(alloc, path.as_bytes())?,
         query: Bytes::copy_of(alloc, b"")?,
         host: Bytes::copy_of(alloc, host(alloc, STEPS - 1)?.as_bytes())?,
         minor: 1,
@@ -111,24 +137,24 @@ fn request(alloc: Global) -> Result<Request, AllocError> {
 }
 
 /// The configuration of the steps.
-fn configuration(alloc: Global) -> Result<Conf, AllocError> {
-    let tree = document(alloc)?;
+fn configuration(alloc: Global, paths: Paths) -> Result<Conf, AllocError> {
+    let tree = document(alloc, paths)?;
     match validate(alloc, &tree, &[]) {
         Ok(conf) => Ok(conf),
         Err(_) => Err(AllocError),
     }
 }
 
-fn document(alloc: Global) -> Result<Tree, AllocError>
+fn document(alloc: Global, paths: Paths) -> Result<Tree, AllocError>
     ensures { IfOk result (λ tree. IsDocument (data_of tree)) }
 {
-    match read_tree(alloc, text(alloc)?.as_slice())? {
+    match read_tree(alloc, text(alloc, paths)?.as_slice())? {
         Some(tree) => Ok(tree),
         None => Err(AllocError),
     }
 }
 
-fn text(alloc: Global) -> Result<Vec<u8>, AllocError> {
+fn text(alloc: Global, paths: Paths) -> Result<Vec<u8>, AllocError> {
     let mut text = Vec::new(alloc);
     text.extend_from_slice(b"{\"listeners\":{\"*:80\":{\"pass\":\"routes\"}},\"routes\":[")?;
     for step in 0..STEPS {
@@ -136,8 +162,9 @@ fn text(alloc: Global) -> Result<Vec<u8>, AllocError> {
             text.push(b',')?;
         }
         let host = host(alloc, step)?;
+        let path = path(alloc, paths, step)?;
         let item = format!(in alloc;
-            "{{\"action\":{{\"return\":200}},\"match\":{{\"host\":\"{host}\",\"uri\":\"{PATH}\"}}}}"
+            "{{\"action\":{{\"return\":200}},\"match\":{{\"host\":\"{host}\",\"uri\":\"{path}\"}}}}"
         )?;
         text.extend_from_slice(item.as_bytes())?;
     }

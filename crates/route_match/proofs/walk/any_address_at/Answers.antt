@@ -1,6 +1,5 @@
-use Rattle.std.proofs.Common.{rules, ◌≡◌, ◌∷◌, ◌∙◌, ap, sym, subst, map}
+use Rattle.std.proofs.Common.{rules, ◌∷◌, ◌∙◌, ap, sym, subst}
 use Rattle.std.proofs.lemmas.Fn.{always_returns_same}
-use Rattle.std.specs.List.Sorted.{IsBinarySearchResult}
 use Rattle.conf_validate.specs.Configuration.{listener_index}
 use Rattle.conf_validate.specs.Kept.{Ascends}
 use Rattle.route_match.proofs.ListenerLemmas.{compared, names, searched}

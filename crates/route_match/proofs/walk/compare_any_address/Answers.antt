@@ -1,4 +1,4 @@
-use Rattle.std.proofs.Common.{[], ◌∷◌, ◌∙◌, ap, nat_cmp}
+use Rattle.std.proofs.Common.{◌∙◌, ap, nat_cmp}
 use Rattle.std.specs.Cmp.Lexicographic.{slice_cmp}
 use Rattle.route_match.proofs.ListenerLemmas.{other_front, same_front}
 use Rattle.route_match.proofs.walk.compare_any_address.Goals as goal

@@ -1,4 +1,4 @@
-use Rattle.std.proofs.Common.{◌≡◌, ◌∙◌, sym, ap, refl}
+use Rattle.std.proofs.Common.{◌∙◌, sym, ap, refl}
 use Rattle.std.proofs.lemmas.Iterator.Consumers.{YieldsList-from_first}
 use Rattle.path_normal.specs.ExpansionLeft.{expansion_left}
 use Rattle.conf_validate.specs.Configuration.{goal_named}

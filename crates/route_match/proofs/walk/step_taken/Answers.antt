@@ -1,6 +1,4 @@
 use Rattle.std.proofs.Common.{◌≡◌, ◌+◌, ◌<◌, ◌∙◌, sym, ap, drop, length, arith}
-use Rattle.route_match.specs.Matches.{request_matches}
-use Rattle.route_match.specs.Target.{first_matching}
 use Rattle.route_match.proofs.WalkLemmas.{among_all, from_index, matches_here, matches_later}
 use Rattle.route_match.proofs.walk.step_taken.Goals as goal
 
