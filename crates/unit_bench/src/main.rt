@@ -17,11 +17,7 @@ mod validations;
 use std::{env, io};
 
 const WORDS: &str =
-<<<<<<< HEAD
     "read-input normal-path matches expand write-record read-record trees ring-alone ring-shared claim check-trace next-head pipelined head-bytes chunk-bytes route validate";
-=======
-    "read-input normal-path matches expand write-record read-record trees validate route ring-alone ring-shared claim check-trace";
->>>>>>> origin/route
 
 fn run(rt: &HostRuntime, word: &str) -> io::Result<()> {
     match word {
@@ -32,13 +28,8 @@ fn run(rt: &HostRuntime, word: &str) -> io::Result<()> {
         "write-record" => records::write_record_ratio(rt),
         "read-record" => records::read_record_ratio(rt),
         "trees" => trees::measure(rt),
-<<<<<<< HEAD
         "route" => routes::measure(rt),
         "validate" => validations::measure(rt),
-=======
-        "validate" => validations::measure(rt),
-        "route" => routes::measure(rt),
->>>>>>> origin/route
         _ => println!(rt; "unit_bench: no such word: {word}"),
     }
 }
