@@ -1,10 +1,11 @@
 -- What a reader tells of the front of its bytes.
-use Rattle.std.proofs.Common.{ℕ, ◌≡◌, refl, sym, ap, ◌∙◌, List, [], length, take, drop, Bool, true, false, ◌+◌, nat_le, Option, Some, None}
+use Rattle.std.proofs.Common.{ℕ, ◌≡◌, refl, sym, ap, ◌∙◌, List, [], length, take, drop, Bool, true, false, ◌+◌, ◌≤◌, nat_le, Option, Some, None}
+use Rattle.std.proofs.lemmas.Bool.{le-ltb}
 use Rattle.httparse.specs.Grammar.{RequestHead}
 use Rattle.unit_types.specs.declared.message.Addr.{Addr}
 use Rattle.http_front.specs.declared.content.Content.{Content}
 use Rattle.http_front.specs.declared.content.Content.TheVariants.{Whole, Refused, Open}
-use Rattle.http_front.specs.Head.{head_of}
+use Rattle.http_front.specs.Head.{head_of, lines_in}
 use Rattle.http_front.specs.Front.{block, blank_len, block_len, front_found, front_of, is_ready, head_limit, head_begun}
 use Rattle.http_front.specs.Message.{fields_of, message_of, request_of}
 use Rattle.http_front.specs.Checks.{has_too_many_lines, refusal_of}
@@ -39,6 +40,10 @@ next_unready from to bytes ended limit rest window behind window_is none =
         ≡ told_of from to (is_ready (front_found 16384 rest None)) (front_unit limit (blank_len bytes) rest ended (front_found 16384 rest None))
     by_long true is = rw is refl
     by_long false is = rw is refl
+
+-- as many lines as there may be
+pub few_lines : (bytes : List ℕ) → length (lines_in bytes) ≤ 102 → has_too_many_lines bytes ≡ false
+few_lines bytes few = le-ltb 102 (length (lines_in bytes)) few
 
 -- too many lines
 pub told_many : (from to : Addr) (many : Bool) (limit used : ℕ) (rest : List ℕ) (ended : Bool) (head : Option RequestHead) → many ≡ true

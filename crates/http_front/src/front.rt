@@ -1,9 +1,10 @@
 //! What stands at the front of the bytes of a connection (RFC 9112, sections 2, 3 and 6).
-ghost use Rattle.std.specs.Prelude.{◌≡◌, ◌+◌, ◌^◌, ◌<◌, ◌≤◌, length, None, true, false, IfOk};
+ghost use Rattle.std.specs.Prelude.{◌≡◌, ◌+◌, ◌^◌, ◌<◌, ◌≤◌, ℕ, Bool, List, length, None, true, false, IfOk};
 ghost use Rattle.http_front.specs.Front.{blank_len, front_found, head_begun, is_ready};
 ghost use Rattle.http_front.specs.Head.{head_of};
 ghost use Rattle.http_front.specs.Checks as checks;
 ghost use Rattle.http_front.specs.NextUnit as spec;
+ghost use Rattle.http_front.specs.NextUnit.{NextUnit};
 ghost use Rattle.http_front.specs.Content.{content_of};
 ghost use Rattle.http_front.specs.Progress.{start, Tells, TellsBehind};
 ghost use Rattle.http_front.specs.Reading.{told_of, told_request, refused};
@@ -134,12 +135,9 @@ fn read_block(
     ensures told { IfOk result (λ step. step.told ≡ told_of from to true (spec.block_unit (checks.has_too_many_lines block.now) max_body used rest.now ended (head_of block.now))) }
     ensures progress { IfOk result (λ step. TellsBehind step.progress used (λ bytes. spec.block_unit (checks.has_too_many_lines block.now) max_body used bytes false (head_of block.now)) step.told.is_due) }
 {
-    if has_too_many_lines(block) {
-        return Ok(Step::refused(431));
-    }
     let mut headers = [EMPTY_HEADER_SPAN; FIELD_LIMIT];
     let Some(spans) = whole_head(block, &mut headers) else {
-        return Ok(Step::refused(400));
+        return Ok(without_head(block));
     };
     let request = request_of(alloc, from, to, block, &spans, &headers)?;
     match refusal_of(&request, max_body) {
@@ -149,6 +147,19 @@ fn read_block(
             let told = read_content(alloc, request, used, rest, ended, max_body)?;
             Ok(Step { told, progress })
         }
+    }
+}
+
+// a block that is no head of at most `FIELD_LIMIT` field lines
+fn without_head(block: &[u8]) -> Step
+    requires { checks.has_too_many_lines block.now ≡ false → head_of block.now ≡ None }
+    ensures told { (from to : Addr) (limit used : ℕ) (rest : List ℕ) (ended : Bool) → result.told ≡ told_of from to true (spec.block_unit (checks.has_too_many_lines block.now) limit used rest ended (head_of block.now)) }
+    ensures progress { (used : ℕ) (unit : List ℕ → NextUnit) (due : Bool) → TellsBehind result.progress used unit due }
+{
+    if has_too_many_lines(block) {
+        Step::refused(431)
+    } else {
+        Step::refused(400)
     }
 }
 

@@ -14,14 +14,15 @@ pub fn laws_of_heads()
     ensures none { (block : List ℕ) → (head_of block ≡ None) ↔ ((h : RequestHead) → ¬ (IsHead block h)) }
 {}
 
-/// Where the parts of a block that is one whole head stand. `None` exactly where it is none.
+/// Where the parts of a block that is one whole head stand. A block with more lines than `headers` has room for is none;
+/// beside that `None` comes exactly where the block is no head.
 pub(crate) fn whole_head(block: &[u8], headers: &mut [HeaderSpan]) -> Option<RequestSpans>
     requires no_empty_line { blank_len block.now ≡ 0 }
-    requires room { length (lines_in block.now) ≤ length headers.old + 2 }
+    ensures few { IfSome result (λ _. length (lines_in block.now) ≤ length headers.old + 2) }
     ensures is { IfSome result (λ _. head_of block.now ≡ Some (head_in block.now)) }
     ensures at { IfSome result (λ spans. IsRequestAt block.now headers.new spans (head_in block.now)) }
     ensures within { IfSome result (IsRequestWithin block.now headers.new) }
-    ensures none { IfNone result (head_of block.now ≡ None) }
+    ensures none { IfNone result (length (lines_in block.now) ≤ length headers.old + 2 → head_of block.now ≡ None) }
 {
     match parse_request(block, headers) {
         Ok(Status::Complete(spans)) => {

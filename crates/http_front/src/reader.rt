@@ -118,6 +118,7 @@ impl Reader {
     /// `Continue` comes once for a request, where it is due. A request that is answered is used up. After `Bad`, `End` and
     /// `Cut` the answer comes again. The largest content is the one given to the call that finds the head complete; later
     /// calls leave it. Fails for want of memory alone; the reader is then as before.
+    #[inline(always)]
     pub fn next(&mut self, alloc: Global, max_body: u64) -> Result<Next, AllocError>
         ensures answer { IfOk result (λ answer. answer ≡ next_answer self.old max_body) }
         ensures ok { OnOk result (self.new ≡ next_reading self.old max_body) }
@@ -147,7 +148,9 @@ impl Reader {
         }
     }
 
-    // the same as `next`, by all bytes anew
+    // the same as `next`, by all bytes anew. It stands apart from `next`, which goes into its caller: a call that only waits
+    // then needs none of this room, and builds no answer.
+    #[inline(never)]
     fn read(&mut self, alloc: Global, max_body: u64) -> Result<Next, AllocError>
         ensures answer { IfOk result (λ answer. answer ≡ next_answer self.old max_body) }
         ensures ok { OnOk result (self.new ≡ next_reading self.old max_body) }

@@ -1,4 +1,4 @@
-use Rattle.std.proofs.Common.{◌≡◌, ◌≤◌, ◌∙◌, ap, sym, subst, List, false}
+use Rattle.std.proofs.Common.{◌≡◌, ◌≤◌, ◌∙◌, ap, arith, sym, subst, List, false}
 use Rattle.unit_types.specs.declared.field.Field.{Field}
 use Rattle.http_front.specs.declared.progress.Progress.{Progress}
 use Rattle.http_front.specs.declared.progress.Progress.TheVariants.{Content}
@@ -9,16 +9,16 @@ use Rattle.http_front.specs.Content.{content_of, is_continue_due}
 use Rattle.http_front.specs.NextUnit.{block_unit}
 use Rattle.http_front.specs.Progress.{framing_of, TellsBehind}
 use Rattle.http_front.specs.Reading.{told_request}
-use Rattle.http_front.proofs.FrontLemmas.{told_refused, told_served}
+use Rattle.http_front.proofs.FrontLemmas.{few_lines, told_refused, told_served}
 use Rattle.http_front.proofs.ProgressLemmas.{length_within, tells_behind}
 use Rattle.http_front.proofs.front.read_block.Goals as goal
 
 pub returns-in-Some-refusal_of-clause-told : goal.returns-in-Some-refusal_of-clause-told
 returns-in-Some-refusal_of-clause-told c =
     let same = c.in_ok-request.ensures in
-    ap (λ step. step.told) c.refused-in-Some-refusal_of.ensures
+    ap (λ step. step.told) c.refused.ensures
     ∙ told_refused c.args.from c.args.to (has_too_many_lines c.args.block.now) c.args.max_body c.args.used c.args.rest.now c.args.ended (head_of c.args.block.now)
-    (head_in c.args.block.now) c.in-Some-refusal_of.status (sym c.has_too_many_lines.ensures ∙ c.if-has_too_many_lines.false) c.in-Some.ensures.is
+    (head_in c.args.block.now) c.in-Some-refusal_of.status (few_lines c.args.block.now (omega (arith, c.in-Some.ensures.few))) c.in-Some.ensures.is
     (sym (c.refusal_of.ensures ∙ ap (λ r. refusal_of c.args.max_body r.minor r.target r.fields) same) ∙ c.in-Some-refusal_of.is)
 
 pub returns-in_ok-told-in-None-clause-told : goal.returns-in_ok-told-in-None-clause-told
@@ -27,7 +27,7 @@ returns-in_ok-told-in-None-clause-told c =
     c.in_ok-told-in-None.ensures
     ∙ ap (λ r. told_request r c.args.used c.args.ended (content_of c.args.max_body r.fields c.args.rest.now)) same
     ∙ told_served c.args.from c.args.to (has_too_many_lines c.args.block.now) c.args.max_body c.args.used c.args.rest.now c.args.ended (head_of c.args.block.now)
-    (head_in c.args.block.now) (sym c.has_too_many_lines.ensures ∙ c.if-has_too_many_lines.false) c.in-Some.ensures.is
+    (head_in c.args.block.now) (few_lines c.args.block.now (omega (arith, c.in-Some.ensures.few))) c.in-Some.ensures.is
     (sym (c.refusal_of.ensures ∙ ap (λ r. refusal_of c.args.max_body r.minor r.target r.fields) same) ∙ c.in-None.is)
 
 pub returns-in_ok-told-in-None-clause-progress : goal.returns-in_ok-told-in-None-clause-progress
@@ -44,4 +44,4 @@ returns-in_ok-told-in-None-clause-progress c =
     subst (λ (p : Progress). TellsBehind p c.args.used (λ bytes. block_unit (has_too_many_lines c.args.block.now) c.args.max_body c.args.used bytes false (head_of c.args.block.now)) c.in_ok-told-in-None.told.is_due)
     (sym progress)
     (tells_behind (has_too_many_lines c.args.block.now) c.args.max_body c.args.used (head_of c.args.block.now) head c.in_ok-told-in-None.told.is_due
-    (sym c.has_too_many_lines.ensures ∙ c.if-has_too_many_lines.false) c.in-Some.ensures.is serves is_due)
+    (few_lines c.args.block.now (omega (arith, c.in-Some.ensures.few))) c.in-Some.ensures.is serves is_due)
