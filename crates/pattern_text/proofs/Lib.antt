@@ -1,3 +1,4 @@
 pub mod GlobLemmas
 pub mod ListLemmas
 pub mod CutLemmas
+pub mod PlainLemmas

@@ -40,6 +40,10 @@ text_matches [] text = is_nil text
 text_matches (p ∷ ps) text =
     if p == 42 then some_end (text_matches ps) text else begins_with p (text_matches ps) text
 
+-- a star stands in the pattern
+abbrev pub contains_star : List ℕ → Bool
+contains_star pattern = list_any (λ b. b == 42) pattern
+
 -- ---- lists of patterns
 
 -- the pattern begins with `!`; its rest is what stands behind that

@@ -3,9 +3,9 @@ ghost use Rattle.std.specs.Prelude.{◌≡◌, List, ℕ, IfOk, ◌∷◌, [], n
 ghost use Rattle.std.specs.Iterator.{AlwaysYields, IsFinite};
 ghost use Rattle.std.specs.List.{list_any, list_all};
 ghost use Rattle.pattern_text.specs.Case.{holds_of, list_holds};
-ghost use Rattle.pattern_text.specs.TextPattern.{is_negated, list_matches, list_matches_ignoring_case};
+ghost use Rattle.pattern_text.specs.TextPattern.{is_negated, plain_part, list_matches, list_matches_ignoring_case};
 
-use crate::case::Case;
+use crate::case::{Case, is_same};
 use crate::glob::matches;
 use crate::slice::SliceBytes;
 use std::alloc::{AllocError, Global};
@@ -17,17 +17,22 @@ use unit_types::Bytes;
 #[derive(Debug, Drop)]
 pub struct TextPattern {
     text: Bytes,
+    /// Whether a `*` stands in the text.
+    has_star: bool,
 }
 
 impl Model for TextPattern {
-    ghost use Rattle.std.specs.Prelude.{List, ℕ};
+    ghost use Rattle.std.specs.Prelude.{List, ℕ, ◌≡◌};
     ghost use Rattle.std.specs.Coded.{coded_list, coded_ℕ};
+    ghost use Rattle.pattern_text.specs.TextPattern.{contains_star};
 
     ghost Value = { List ℕ };
 
     ghost coded = { coded_list coded_ℕ };
 
     ghost view = { λ p. p.text };
+
+    ghost invariant = { λ p. p.has_star ≡ contains_star p.text };
 }
 
 impl TextPattern {
@@ -39,6 +44,7 @@ impl TextPattern {
     {
         Ok(TextPattern {
             text: Bytes::copy_of(alloc, text)?,
+            has_star: text.contains(&b'*'),
         })
     }
 
@@ -53,7 +59,7 @@ impl TextPattern {
     pub fn matches(&self, text: &[u8]) -> bool
         ensures { result ≡ list_matches (self.now ∷ []) text.now }
     {
-        self.holds(SliceBytes { rest: text }, Case::Exact) != self.is_negated()
+        self.holds_slice(text, Case::Exact) != self.is_negated()
     }
 
     /// Whether the pattern begins with `!`.
@@ -61,6 +67,28 @@ impl TextPattern {
         ensures { result ≡ is_negated self.now }
     {
         self.text.as_slice().starts_with(b"!")
+    }
+
+    /// The pattern without its `!`.
+    fn plain(&self) -> &[u8]
+        ensures { result.now ≡ plain_part self.now }
+    {
+        let pattern = self.text.as_slice();
+        if pattern.starts_with(b"!") {
+            &pattern[1..]
+        } else {
+            pattern
+        }
+    }
+
+    /// Whether the pattern without its `!` matches the text. Without a star they are compared as slices.
+    fn holds_slice(&self, text: &[u8], case: Case) -> bool
+        ensures { result ≡ holds_of case self.now text.now }
+    {
+        if self.has_star {
+            return self.holds(SliceBytes { rest: text }, case);
+        }
+        is_same(text, self.plain(), case)
     }
 
     /// Whether the pattern without its `!` matches the text.
@@ -115,14 +143,14 @@ impl TextPatterns {
     pub fn matches(&self, text: &[u8]) -> bool
         ensures { result ≡ list_matches self.now text.now }
     {
-        self.matches_bytes(SliceBytes { rest: text })
+        self.holds_slice(text, Case::Exact)
     }
 
     /// Whether the list matches the text, all in lower case.
     pub fn matches_ignoring_case(&self, text: &[u8]) -> bool
         ensures { result ≡ list_matches_ignoring_case self.now text.now }
     {
-        self.matches_bytes_ignoring_case(SliceBytes { rest: text })
+        self.holds_slice(text, Case::Ignored)
     }
 
     /// Whether the list matches the text of these bytes.
@@ -141,6 +169,23 @@ impl TextPatterns {
         ensures { (bytes : List ℕ) → AlwaysYields I.next_gives (λ b. b) text bytes → result ≡ list_matches_ignoring_case self.now bytes }
     {
         self.holds(text, Case::Ignored)
+    }
+
+    /// Whether the list matches the text, in one pass over the list.
+    fn holds_slice(&self, text: &[u8], case: Case) -> bool
+        ensures { result ≡ list_holds case self.now text.now }
+    {
+        let mut has_plain = false;
+        let mut plain_holds = false;
+        for pattern in &self.list {
+            if !pattern.is_negated() {
+                has_plain = true;
+                plain_holds = plain_holds || pattern.holds_slice(text, case);
+            } else if pattern.holds_slice(text, case) {
+                return false;
+            }
+        }
+        plain_holds || !has_plain
     }
 
     fn holds<I: Iterator<Item = u8> + Copy>(&self, text: I, case: Case) -> bool

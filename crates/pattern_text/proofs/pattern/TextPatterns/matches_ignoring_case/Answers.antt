@@ -1,5 +1,6 @@
-use Rattle.pattern_text.proofs.ListLemmas.{slice_gives}
+use Rattle.std.proofs.Common.{◌∙◌}
+use Rattle.pattern_text.proofs.ListLemmas.{list_holds_ignoring_case}
 use Rattle.pattern_text.proofs.pattern.TextPatterns.matches_ignoring_case.Goals as goal
 
 pub returns : goal.returns
-returns c = c.matches_bytes_ignoring_case.ensures c.args.text.now (slice_gives _)
+returns c = c.holds_slice.ensures ∙ list_holds_ignoring_case c.args.self.now c.args.text.now

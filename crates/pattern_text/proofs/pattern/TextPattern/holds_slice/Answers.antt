@@ -1,0 +1,17 @@
+use Rattle.std.proofs.Common.{◌≡◌, ◌∙◌, sym, ap, false}
+use Rattle.std.specs.Str.{bytes_eq}
+use Rattle.pattern_text.specs.Case.{folded_all}
+use Rattle.pattern_text.specs.TextPattern.{contains_star}
+use Rattle.pattern_text.proofs.ListLemmas.{slice_gives}
+use Rattle.pattern_text.proofs.PlainLemmas.{holds_without_star}
+use Rattle.pattern_text.proofs.pattern.TextPattern.holds_slice.Goals as goal
+
+pub returns-then-self : goal.returns-then-self
+returns-then-self c = c.holds.ensures c.args.text.now (slice_gives _)
+
+pub returns : goal.returns
+returns c =
+    let pattern = c.args.self.now in
+    let text = c.args.text.now in
+    let none : contains_star pattern ≡ false = sym (ap contains_star c.self.view_is) ∙ sym c.self.invariant ∙ c.if-self.false in
+    c.is_same.ensures ∙ ap (λ p. bytes_eq (folded_all c.args.case text) (folded_all c.args.case p)) c.plain.ensures ∙ sym (holds_without_star c.args.case pattern text none)
