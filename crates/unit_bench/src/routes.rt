@@ -32,7 +32,7 @@ enum Paths {
 /// those of all steps.
 pub fn measure<R: Print + Clock + AllocGlobal>(rt: &R) -> io::Result<()> {
     measure_paths(rt, "route", Paths::Own, 400)?;
-    measure_paths(rt, "route, all paths the same", Paths::Same, 800)
+    measure_paths(rt, "route, all paths the same", Paths::Same, 400)
 }
 
 fn measure_paths<R: Print + Clock + AllocGlobal>(
