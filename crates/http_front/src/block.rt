@@ -72,7 +72,12 @@ pub(crate) fn line_len(bytes: &[u8]) -> Option<usize>
 pub(crate) fn feed_place(bytes: &[u8]) -> Option<usize>
     ensures { result ≡ position is_line_feed bytes.now }
 {
-    memchr(b'\n', bytes)
+    // a few bytes are gone through faster than a search is begun
+    if bytes.len() < 8 {
+        bytes.iter().position(|b| *b == b'\n')
+    } else {
+        memchr(b'\n', bytes)
+    }
 }
 
 /// Whether a line, which has lost its LF, is empty.

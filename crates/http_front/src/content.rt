@@ -77,7 +77,7 @@ pub(crate) fn is_continue_due(request: &Request) -> bool
     ensures { result ≡ spec.is_continue_due request.now.minor request.now.fields }
 {
     let fields = request.fields.as_slice();
-    request.minor == 1 && has_content(fields) && expects_continue(fields)
+    request.minor == 1 && expects_continue(fields) && has_content(fields)
 }
 
 fn has_content(fields: &[Field]) -> bool

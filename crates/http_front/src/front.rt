@@ -1,12 +1,14 @@
 //! What stands at the front of the bytes of a connection (RFC 9112, sections 2, 3 and 6).
-ghost use Rattle.std.specs.Prelude.{◌≡◌, ◌+◌, ◌^◌, ◌<◌, ◌≤◌, ℕ, Bool, List, length, None, true, false, IfOk};
+ghost use Rattle.std.specs.Prelude.{◌≡◌, ◌⊎◌, ◌+◌, ◌^◌, ◌<◌, ◌≤◌, ℕ, Bool, List, length, None, true, false, IfOk};
 ghost use Rattle.http_front.specs.Front.{blank_len, front_found, head_begun, is_ready};
 ghost use Rattle.http_front.specs.Head.{head_of};
 ghost use Rattle.http_front.specs.Checks as checks;
 ghost use Rattle.http_front.specs.NextUnit as spec;
 ghost use Rattle.http_front.specs.NextUnit.{NextUnit};
 ghost use Rattle.http_front.specs.Content.{content_of};
-ghost use Rattle.http_front.specs.Progress.{start, Tells, TellsBehind};
+ghost use Rattle.http_front.specs.Checks.{content_length};
+ghost use Rattle.http_front.specs.declared.progress.Progress.TheVariants as At;
+ghost use Rattle.http_front.specs.Progress.{framing_of, start, Tells, TellsBehind};
 ghost use Rattle.http_front.specs.Reading.{told_of, told_request, refused};
 ghost use Rattle.unit_types.specs.declared.message.Addr.{Addr};
 
@@ -142,11 +144,7 @@ fn read_block(
     let request = request_of(alloc, from, to, block, &spans, &headers)?;
     match refusal_of(&request, max_body) {
         Some(status) => Ok(Step::refused(status)),
-        None => {
-            let progress = content_progress(used, max_body, request.fields.as_slice());
-            let told = read_content(alloc, request, used, rest, ended, max_body)?;
-            Ok(Step { told, progress })
-        }
+        None => read_content(alloc, request, used, rest, ended, max_body),
     }
 }
 
@@ -171,11 +169,13 @@ fn read_content(
     rest: &[u8],
     ended: bool,
     max_body: u64,
-) -> Result<Told, AllocError>
+) -> Result<Step, AllocError>
     requires fits { used + length rest.now < 2 ^ 64 }
-    ensures { IfOk result (λ told. told ≡ told_request request used ended (content_of max_body request.fields rest.now)) }
+    ensures told { IfOk result (λ step. step.told ≡ told_request request used ended (content_of max_body request.fields rest.now)) }
+    ensures progress { IfOk result (λ step. (step.progress ≡ start) ⊎ (content_length request.fields ≤ max_body → step.progress ≡ At.Content used (framing_of max_body request.fields))) }
 {
     let is_due = is_continue_due(&request);
+    let mut progress = Progress::START;
     let mut told = Told {
         answer: if ended { Next::Cut } else { Next::NeedMore },
         used: 0,
@@ -188,7 +188,7 @@ fn read_content(
             told.used = used + len;
         }
         Content::Refused(status) => told.answer = Next::Bad(status),
-        Content::Open => {}
+        Content::Open => progress = content_progress(used, max_body, request.fields.as_slice()),
     }
-    Ok(told)
+    Ok(Step { told, progress })
 }

@@ -53,16 +53,18 @@ fn has_request(alloc: Global, reader: &mut Reader) -> Result<bool, AllocError>
     Ok(matches!(reader.next(alloc, LIMIT)?, Next::Request(_)))
 }
 
-/// `next` on a browser's head: at most six times as long as its parse alone.
+/// `next` on a browser's head, less what the clock takes: at most six times as long as its parse alone.
 pub fn head_ratio<R: Runtime>(rt: &R, alloc: Global) -> io::Result<()> {
     let input = repeated(alloc, browser_head(), REQUESTS)?;
     let mut whole = u64::MAX;
     let mut parsed = u64::MAX;
+    let mut clock = u64::MAX;
     for _ in 0..ROUNDS {
         parsed = parsed.min(parse_nanos(rt, browser_head())?);
+        clock = clock.min(clock_nanos(rt)?);
         whole = whole.min(next_nanos(rt, alloc, &input)?);
     }
-    report(rt, "next", whole, parsed, 600)
+    report(rt, "next", whole.saturating_sub(clock), parsed, 600)
 }
 
 fn repeated(alloc: Global, part: &[u8], times: u64) -> Result<Vec<u8>, AllocError> {
@@ -87,7 +89,17 @@ fn parse_nanos<R: Runtime>(rt: &R, head: &[u8]) -> io::Result<u64> {
     Ok(best(u64::MAX, time, parsed == REQUESTS))
 }
 
-// the time of `next` alone for all requests of the input, without that of letting each request go
+// what the clock itself takes, as often as there are requests
+fn clock_nanos<R: Runtime>(rt: &R) -> io::Result<u64> {
+    let mut time = 0u64;
+    for _ in 0..REQUESTS {
+        let start = Instant::now(rt)?;
+        time = time.saturating_add(nanos_since(rt, &start)?);
+    }
+    Ok(time)
+}
+
+// the time of `next` for all requests of the input, without that of letting each request go
 fn next_nanos<R: Runtime>(rt: &R, alloc: Global, input: &[u8]) -> io::Result<u64> {
     let mut reader = reader(alloc)?;
     reader.feed(alloc, input)?;
