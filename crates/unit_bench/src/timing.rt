@@ -1,4 +1,5 @@
 //! Times in nanoseconds, and how their ratios are told.
+ghost use Rattle.std.specs.Prelude.{◌≡◌, min, if◌then◌else◌};
 
 use std::io;
 use std::rt::Clock;
@@ -17,6 +18,8 @@ pub fn report(rt: &impl Print, name: &str, measured: u64, base: u64, most: u64) 
 }
 
 /// The lower of two times, where the later measurement did all that it was to do.
-pub fn best(best: u64, time: u64, all_done: bool) -> u64 {
+pub fn best(best: u64, time: u64, all_done: bool) -> u64
+    ensures { result ≡ (if all_done then min best time else best) }
+{
     if all_done { best.min(time) } else { best }
 }
