@@ -1,3 +1,5 @@
 pub mod Words
 pub mod Parts
+pub mod Exact
 mod Steps
+mod LastWords

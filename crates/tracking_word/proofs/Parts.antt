@@ -129,3 +129,29 @@ known_join {V} held says n tag views k other v w both spent at there from nothin
     (λ i lt holds x says_x. ⊎_elim (λ t. old k v at i lt t.0 x t.1) (λ t. old other w there i lt t.0 x t.1) (from i x holds says_x))
     (λ j' y' ne' there'. old j' y' there')
     j y in_both)
+
+-- ---- an item comes to the stepping seat, or goes, and no tag changes
+
+-- The seat holds one more item, of whose tag it says what is so, or nothing.
+pub known_gains : {V : Type 0} (held : (ℕ → ℕ) → V → ℕ) (says : V → ℕ → ℕ → Type 0) (n : ℕ) (tag tag' : ℕ → ℕ) (views : List V) (k : ℕ) (v u : V) → get_elem? views k ≡ some v
+    → Stays n tag tag' → (item : ℕ) → ((i : ℕ) → i ≢ item → Holds held i u → Holds held i v)
+    → ((x : ℕ) → says u item x → (tag item ≡ x) ⊎ (tag item ≡ 0)) → ((i x : ℕ) → i ≢ item → says u i x → says v i x)
+    → Known held says n tag views → Known held says n tag' (set views k u)
+known_gains {V} held says n tag tag' views k v u at stays item others_held told others_told old =
+    let still : (i x : ℕ) → i < n → (tag i ≡ x) ⊎ (tag i ≡ 0) → (tag' i ≡ x) ⊎ (tag' i ≡ 0) = λ i x lt. ⊎_elim (λ a. inl (stays i lt ∙ a)) (λ b. inr (stays i lt ∙ b)) in
+    known_step held says n tag' views k u
+    (λ i lt holds x says_x. still i x lt (⊎_elim
+    (λ is. subst (λ (j : ℕ). (tag j ≡ x) ⊎ (tag j ≡ 0)) (sym is) (told x (subst (λ (j : ℕ). says u j x) is says_x)))
+    (λ ne. old k v at i lt (others_held i ne holds) x (others_told i x ne says_x))
+    (cases_eq i item)))
+    (λ j w ne there i lt holds x says_x. still i x lt (old j w there i lt holds x says_x))
+
+-- The seat holds no item that it didn't hold.
+pub known_loses : {V : Type 0} (held : (ℕ → ℕ) → V → ℕ) (says : V → ℕ → ℕ → Type 0) (n : ℕ) (tag tag' : ℕ → ℕ) (views : List V) (k : ℕ) (v u : V) → get_elem? views k ≡ some v
+    → Stays n tag tag' → ((i : ℕ) → Holds held i u → Holds held i v × ((x : ℕ) → says u i x → says v i x))
+    → Known held says n tag views → Known held says n tag' (set views k u)
+known_loses {V} held says n tag tag' views k v u at stays fewer old =
+    let still : (i x : ℕ) → i < n → (tag i ≡ x) ⊎ (tag i ≡ 0) → (tag' i ≡ x) ⊎ (tag' i ≡ 0) = λ i x lt. ⊎_elim (λ a. inl (stays i lt ∙ a)) (λ b. inr (stays i lt ∙ b)) in
+    known_step held says n tag' views k u
+    (λ i lt holds x says_x. still i x lt (old k v at i lt (fewer i holds).0 x ((fewer i holds).1 x says_x)))
+    (λ j w ne there i lt holds x says_x. still i x lt (old j w there i lt holds x says_x))

@@ -16,3 +16,7 @@ Counted arms wins n tag views = (f : ℕ → ℕ → ℕ) → weigh (arms f) vie
 -- its tag takes it to 0.
 abbrev pub Known : {V : Type 0} → (held : (ℕ → ℕ) → V → ℕ) → (says : V → ℕ → ℕ → Type 0) → ℕ → (ℕ → ℕ) → List V → Type 0
 Known {V} held says n tag views = (k : ℕ) (v : V) → get_elem? views k ≡ some v → (i : ℕ) → i < n → Holds held i v → (x : ℕ) → says v i x → (tag i ≡ x) ⊎ (tag i ≡ 0)
+
+-- The word of an item that a seat holds is exactly what its view says: only the holder sets it.
+abbrev pub KnownExactly : {V : Type 0} → (held : (ℕ → ℕ) → V → ℕ) → (says : V → ℕ → ℕ → Type 0) → ℕ → (ℕ → ℕ) → List V → Type 0
+KnownExactly {V} held says n word views = (k : ℕ) (v : V) → get_elem? views k ≡ some v → (i : ℕ) → i < n → Holds held i v → (x : ℕ) → says v i x → word i ≡ x

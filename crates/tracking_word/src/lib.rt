@@ -5,12 +5,14 @@
 //! with more words in it can be ruled by the same parts.
 #![tactic(auto)]
 
-mod law;
+mod closing;
+mod laws;
 mod seat;
 mod tags;
 mod view;
 
-pub use law::wins_match_arms;
+pub use closing::ClosedTags;
+pub use laws::wins_match_arms;
 pub use seat::TagSeat;
 pub use tags::{Settle, Tags};
 pub use view::{TagEvent, TagView};

@@ -10,5 +10,6 @@ use atomic_table::Seat;
 #[derive(Drop)]
 pub struct TagSeat {
     pub(crate) seat: Seat<u8, TagView>,
-    ghost sound: { (seat.me.1 ≡ []) × ((item : ℕ) → Holds held_by item seat.me.0 → item < seat.table_id.words) },
+    ghost sound: { (seat.me.1 ≡ []) × ((item : ℕ) → Holds held_by item seat.me.0
+        → item < seat.table_id.words) },
 }

@@ -58,9 +58,10 @@ impl Join<TagView> for Together {
 /// The tags of `items` items, numbered from 0.
 #[derive(Drop)]
 pub struct Tags {
-    table: Table<u8, TagView, u32, TagRule, Global>,
-    items: u32,
-    ghost sized: { (table.shared.key ≡ items) × (table.shared.table_id.words ≡ items) × (1 ≤ items) },
+    pub(crate) table: Table<u8, TagView, u32, TagRule, Global>,
+    pub(crate) items: u32,
+    ghost sized: { (table.shared.key ≡ items) × (table.shared.table_id.words ≡ items) × (1 ≤ items)
+        × (table.shared.table_id.slots ≡ 0) },
 }
 
 /// What a settle did.
@@ -79,9 +80,12 @@ impl Tags {
     ghost use Rattle.tracking_word.specs.declared.view.TagEvent.TheVariants.{Armed, Won, Gone};
 
     /// Tags that are all 0, and a seat that holds every item.
+    ///
+    /// Fails for want of memory alone.
     pub fn open(alloc: Global, items: u32) -> Result<(Tags, TagSeat), AllocError>
         requires { (1 ≤ items) × (items ≤ 16384) }
-        ensures { IfOk result (λ r. (r.0.items ≡ items) × BelongsTo r.1 r.0 × (knows r.1 ≡ whole items)) }
+        ensures { IfOk result (λ r. (r.0.items ≡ items) × BelongsTo r.1 r.0
+            × (knows r.1 ≡ whole items)) }
     {
         let words = vec![in alloc; 0u64; items as usize]?;
         let (table, seat) = Table::of_words(alloc, words.as_slice(), &items)?;
@@ -136,7 +140,8 @@ impl Tags {
         requires stream { 1 ≤ stream }
         ensures own { BelongsTo seat.new self.now }
         ensures view { knows seat.new ≡ after (settling item stream result) (knows seat.old) }
-        ensures holder { Holds held_by item (knows seat.old) → (result ≡ last_tag item (knows seat.old).log) ⊎ (result ≡ 0) }
+        ensures holder { Holds held_by item (knows seat.old)
+            → (result ≡ last_tag item (knows seat.old).log) ⊎ (result ≡ 0) }
     {
         let table = &self.table;
         let shared = &table.shared;
@@ -150,10 +155,15 @@ impl Tags {
         requires item { item < self.now.items }
         requires stream { 1 ≤ stream }
         ensures own { BelongsTo seat.new self.now }
-        ensures won { result ≡ Settle.Won → knows seat.new ≡ after (Won item stream) (knows seat.old) }
-        ensures gone { (found : ℕ) → result ≡ Settle.Gone found → (found ≢ stream) × (knows seat.new ≡ after (Gone item stream found) (knows seat.old)) }
-        ensures holder_won { result ≡ Settle.Won → Holds held_by item (knows seat.old) → last_tag item (knows seat.old).log ≡ stream }
-        ensures holder_gone { (found : ℕ) → result ≡ Settle.Gone found → Holds held_by item (knows seat.old) → (found ≡ last_tag item (knows seat.old).log) ⊎ (found ≡ 0) }
+        ensures won { result ≡ Settle.Won
+            → knows seat.new ≡ after (Won item stream) (knows seat.old) }
+        ensures gone { (found : ℕ) → result ≡ Settle.Gone found → (found ≢ stream)
+            × (knows seat.new ≡ after (Gone item stream found) (knows seat.old)) }
+        ensures holder_won { result ≡ Settle.Won → Holds held_by item (knows seat.old)
+            → last_tag item (knows seat.old).log ≡ stream }
+        ensures holder_gone { (found : ℕ) → result ≡ Settle.Gone found
+            → Holds held_by item (knows seat.old)
+            → (found ≡ last_tag item (knows seat.old).log) ⊎ (found ≡ 0) }
     {
         let found = self.exchange(seat, item, stream);
         if found == stream {

@@ -11,6 +11,7 @@ fn a_settle_by_another_seat_wins_once(rt: HostRuntime) -> Result<(), AllocError>
     assert_eq!(rt; tags.settle(&mut other, 0, 1), Settle::Won);
     assert_eq!(rt; tags.settle(&mut other, 0, 1), Settle::Gone(0));
     tags.join(&mut seat, other);
+    assert_eq!(rt; tags.close(seat).tag(0), 0);
     Ok(())
 }
 

@@ -10,6 +10,9 @@ ghost use Rattle.tracking_word.specs.declared.view.TagView.{TagView};
 /// For each item and stream, the wins of all seats are as many as the arms, or one fewer where the tag is that stream. This
 /// does nothing: its contract is the law.
 pub fn wins_match_arms()
-    ensures { (n : ℕ) (s : State ℕ TagView) → TagsHold n s → (item : ℕ) (stream : ℕ) → item < n → 1 ≤ stream
-        → weigh (arms_of (is_pair item stream)) s.views ≡ weigh (wins_of (is_pair item stream)) s.views + one_if (slice_index s.words item == stream) }
+    ensures { (n : ℕ) (s : State ℕ TagView) → TagsHold n s → (item : ℕ) (stream : ℕ) → item < n
+        → 1 ≤ stream
+        → weigh (arms_of (is_pair item stream)) s.views
+        ≡ weigh (wins_of (is_pair item stream)) s.views
+        + one_if (slice_index s.words item == stream) }
 {}
