@@ -9,7 +9,7 @@ use Rattle.std.proofs.lemmas.List.FromFn.{length-map-range_with_len, get_or-map-
 use Rattle.request_context.specs.Parts.{IsCut, stretch_count, stretch_of, stretches_of}
 
 -- each of them begins before the end
-begins : (size len number : ℕ) → 0 < size → number < (len + (size - 1)) / size → size * number < len
+pub begins : (size len number : ℕ) → 0 < size → number < (len + (size - 1)) / size → size * number < len
 begins size len number some lt =
     let count = (len + (size - 1)) / size in
     let next : number + 1 ≤ count = omega arith in
@@ -17,8 +17,13 @@ begins size len number some lt =
     let below : size * (number + 1) ≤ size * count = mul-le-mul_left size next in
     omega (arith, below, all, some)
 
+-- so a stretch with a number below their count begins within the bytes
+pub begins_within : (size : ℕ) (bytes : List ℕ) (number : ℕ) → 0 < size → number < stretch_count size bytes → size * number < length bytes
+unfolding stretch_count
+begins_within size bytes number some lt = begins size (length bytes) number some lt
+
 -- the first of them, joined, are a front of the bytes
-front_joined : (size : ℕ) (bytes : List ℕ) (n : ℕ) → concat (map (stretch_of size bytes) (range_with_len 0 n)) ≡ take (size * n) bytes
+pub front_joined : (size : ℕ) (bytes : List ℕ) (n : ℕ) → concat (map (stretch_of size bytes) (range_with_len 0 n)) ≡ take (size * n) bytes
 unfolding stretch_of
 front_joined size bytes zero = let none : 0 ≡ size * 0 = omega arith in ap (λ (k : ℕ). take k bytes) none
 front_joined size bytes (suc n) =

@@ -1,5 +1,9 @@
+pub mod Asks
 pub mod Cuts
+pub mod Fits
+pub mod Left
 pub mod Lengths
+pub mod Lists
 pub mod Loop
 pub mod Readers
 pub mod Records

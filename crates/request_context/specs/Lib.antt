@@ -1,3 +1,5 @@
+pub mod Cutting
+pub mod Parcels
 pub mod Parts
 pub mod Reading
 pub mod Record

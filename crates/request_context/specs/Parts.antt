@@ -14,13 +14,21 @@ stretch_of size bytes number = take size (drop (size * number) bytes)
 unfoldable pub stretches_of : ℕ → List ℕ → List (List ℕ)
 stretches_of size bytes = map (stretch_of size bytes) (range_with_len 0 (stretch_count size bytes))
 
--- a reply record goes in parts of 262,144 bytes
-abbrev pub parts_of : List ℕ → List (List ℕ)
-parts_of bytes = stretches_of 262144 bytes
+-- the bytes of a part of a reply record, of which one message carries one
+abbrev pub part_size : ℕ
+part_size = 262144
 
--- a request record, or a part of a reply record, goes in pieces of 16,384 bytes
+-- the bytes of a piece, of which one chunk holds one
+abbrev pub piece_size : ℕ
+piece_size = 16384
+
+-- a reply record goes in parts
+abbrev pub parts_of : List ℕ → List (List ℕ)
+parts_of bytes = stretches_of part_size bytes
+
+-- a request record, or a part of a reply record, goes in pieces
 abbrev pub pieces_of : List ℕ → List (List ℕ)
-pieces_of bytes = stretches_of 16384 bytes
+pieces_of bytes = stretches_of piece_size bytes
 
 -- ---- what stretches keep
 

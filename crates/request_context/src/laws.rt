@@ -3,7 +3,7 @@ ghost use Rattle.std.specs.Prelude.{◌≡◌, ◌++◌, [], List, ℕ, length};
 ghost use Rattle.unit_types.specs.Record.{reply_record};
 ghost use Rattle.unit_types.specs.declared.message.Reply.{Reply};
 ghost use Rattle.request_context.specs.declared.asked.Asked.{Asked};
-ghost use Rattle.request_context.specs.Parts.{IsCut, parts_of, pieces_of};
+ghost use Rattle.request_context.specs.Parts.{IsCut, part_size, piece_size, parts_of, pieces_of};
 ghost use Rattle.request_context.specs.Record.{HasRecord, HasReplyRecord, request_record, request_record_size, reply_record_size};
 
 /// No request record begins another one, and two that are equal are of one request.
@@ -28,11 +28,11 @@ pub fn reply_record_length()
 
 /// The parts of a reply record, joined, are the record; all but the last have 262,144 bytes.
 pub fn parts_join()
-    ensures { (bytes : List ℕ) → IsCut 262144 bytes (parts_of bytes) }
+    ensures { (bytes : List ℕ) → IsCut part_size bytes (parts_of bytes) }
 {}
 
 /// The pieces of a request record, or of a part of a reply record, joined, are its bytes; all but the last have 16,384
 /// bytes.
 pub fn pieces_join()
-    ensures { (bytes : List ℕ) → IsCut 16384 bytes (pieces_of bytes) }
+    ensures { (bytes : List ℕ) → IsCut piece_size bytes (pieces_of bytes) }
 {}
