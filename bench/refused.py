@@ -110,27 +110,31 @@ class Watch(threading.Thread):
 
 
 def tried(tree, crate, folder="refused"):
-    """Tries the edits of a crate's folder, and returns what came of each: its name, its seconds (None: not seen), whether it was refused, what was said."""
-    names = [os.path.basename(edit) for edit in edits_of(tree, crate, folder)]
+    """Tries the edits of a crate's folder on a copy, and returns what `tried_in` does."""
     with tempfile.TemporaryDirectory(prefix="refused-") as room:
-        copy, rooms = f"{room}/tree", f"{room}/tmp"
-        copied(tree, copy, crate, folder)
-        os.makedirs(rooms)
-        inside, texts = f"{copy}/crates/{crate}", {}
-        for name in names:
-            try:
-                texts[name] = edited(f"{inside}/must-fail/{name}", inside)
-            except OSError:
-                continue
+        copied(tree, f"{room}/tree", crate, folder)
+        return tried_in(f"{room}/tree", crate)
+
+
+def tried_in(copy, crate):
+    """Tries the must-fail edits of a crate in a copy, and returns of each its name, its seconds (None where an earlier run's answer was kept), whether it
+    was refused, and what was said."""
+    inside, texts = f"{copy}/crates/{crate}", {}
+    names = [os.path.basename(edit) for edit in edits_of(copy, crate, "must-fail")]
+    for name in names:
+        try:
+            texts[name] = edited(f"{inside}/must-fail/{name}", inside)
+        except OSError:
+            continue
+    with tempfile.TemporaryDirectory(prefix="edits-") as rooms:
         watch = Watch(rooms, texts)
         watch.start()
-        # an earlier try's answer is kept by rt: --anew would prove the crate from nothing, so what is known counts without seconds
         ran = subprocess.run([command(), "must-fail", crate], cwd=copy, env={**os.environ, "TMPDIR": rooms},
                              stdin=subprocess.DEVNULL, stdout=subprocess.PIPE, stderr=subprocess.STDOUT, text=True, errors="replace")
         watch.over.set()
         watch.join()
     said = dict(re.findall(r"must-fail " + re.escape(crate) + r"/(\S+): (.*)", ran.stdout))
-    if not said:
+    if names and not said:
         print(ran.stdout, end="")
     return [(name, watch.seconds.get(name), said.get(name, "").startswith("refused, as it must be"), said.get(name, "no answer")) for name in names]
 
