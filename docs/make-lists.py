@@ -11,7 +11,7 @@ import sys
 HERE = os.path.dirname(os.path.abspath(__file__))
 TOP = os.path.dirname(HERE)
 MARK = "<!-- what follows is made by docs/make-lists.py -->\n"
-NAMED = re.compile(r"(?:[a-z]+ )?pub (?:record |data |enum )?(?!mod |use )(\S+)")
+NAMED = re.compile(r"(?:[a-z]+ )*pub (?:record |data |enum )?(?!mod |use )(\S+)")
 
 HEAD = """# Definitions
 
@@ -76,8 +76,14 @@ def definitions_in(path):
     """The parts of a file of definitions: each the words of its heading, and rows of names with their words."""
     with open(path, encoding="utf-8") as source:
         lines = source.read().split("\n")
-    parts, comment, is_head = [("", [])], [], True
+    parts, comment, is_head, is_mutual = [("", [])], [], True, False
     for line in lines:
+        if line[:1].strip():
+            is_mutual = line.endswith(" mutual")
+        elif is_mutual and line.startswith("  pub "):
+            line = line.strip()
+        if is_mutual and line.endswith(" mutual"):
+            continue
         if line.startswith("-- ----"):
             parts.append((line.strip("- "), []))
             comment = []
