@@ -116,7 +116,9 @@ def definitions():
                 if heading:
                     out.append("%s:\n" % (heading[0].upper() + heading[1:]))
                 out.append("| Definition | In plain words |\n|---|---|")
-                out.extend("| %s | %s |" % (", ".join("`%s`" % name for name in names), words.replace("|", "\\|")) for names, words in rows)
+                # what has no words of its own says what stands above it
+                out.extend("| %s | %s |" % (", ".join("`%s`" % name for name in names), (words or heading or first_sentence(head_of(path))).replace("|", "\\|"))
+                           for names, words in rows)
                 out.append("")
     return "\n".join(out)
 
