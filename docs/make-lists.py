@@ -11,6 +11,7 @@ import sys
 HERE = os.path.dirname(os.path.abspath(__file__))
 TOP = os.path.dirname(HERE)
 MARK = "<!-- what follows is made by docs/make-lists.py -->\n"
+FORM = re.compile(r"(\S+) :")
 NAMED = re.compile(r"(?:[a-z]+ )*pub (?:record |data |enum )?(?!mod |use )(\S+)")
 
 HEAD = """# Definitions
@@ -76,14 +77,15 @@ def definitions_in(path):
     """The parts of a file of definitions: each the words of its heading, and rows of names with their words."""
     with open(path, encoding="utf-8") as source:
         lines = source.read().split("\n")
-    parts, comment, is_head, is_mutual = [("", [])], [], True, False
+    parts, comment, is_head, block = [("", [])], [], True, ""
     for line in lines:
-        if line[:1].strip():
-            is_mutual = line.endswith(" mutual")
-        elif is_mutual and line.startswith("  pub "):
-            line = line.strip()
-        if is_mutual and line.endswith(" mutual"):
-            continue
+        if line[:1].strip() and not line.startswith("--"):
+            opens = re.match(r"module _|abbrev mutual|mutual|pub data", line)
+            block = opens[0] if opens else ""
+        elif block and line.startswith("  "):
+            # of a module or a mutual block what stands in it, of a data type its forms
+            line = line[2:]
+        named = NAMED.match(line) or (block == "pub data" and FORM.match(line))
         if line.startswith("-- ----"):
             parts.append((line.strip("- "), []))
             comment = []
@@ -92,12 +94,12 @@ def definitions_in(path):
         elif is_head and line.startswith("use "):
             # the comment at the head is the file's
             comment, is_head = [], False
-        elif NAMED.match(line):
-            name, rows = NAMED.match(line)[1], parts[-1][1]
+        elif named:
+            rows = parts[-1][1]
             if comment or not rows:
-                rows.append(([name], " ".join(comment)))
+                rows.append(([named[1]], " ".join(comment)))
             else:
-                rows[-1][0].append(name)
+                rows[-1][0].append(named[1])
             comment = []
         elif not line.strip():
             is_head, comment = False, []
