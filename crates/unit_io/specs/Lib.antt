@@ -1,3 +1,6 @@
 pub mod Causes
+pub mod MemConn
 pub mod Memory
+pub mod Readings
+pub mod Status
 pub mod Told
