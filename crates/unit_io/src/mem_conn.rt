@@ -207,6 +207,15 @@ impl MemConn {
             unkept: 0,
         }
     }
+
+    /// The connection with that number.
+    pub(crate) fn numbered(self, number: u64) -> MemConn
+        ensures { result ≡ record self { number = number } }
+    {
+        let mut conn = self;
+        conn.number = number;
+        conn
+    }
 }
 
 impl Conn for MemConn {
