@@ -11,12 +11,14 @@ pub record Script : Type 0 where
   pub calls : ℕ
   pub faults : ℕ
 
--- a sink over memory: what was written, the numbers of the writes that fail, and how many writes and faults there were
+-- a sink over memory: what was written, the numbers of the writes that fail, how many writes and faults there were, and
+-- how many of the faults found no memory
 pub record Tape : Type 0 where
   pub written : List ℕ
   pub fail_at : List ℕ
   pub calls : ℕ
   pub faults : ℕ
+  pub unkept : ℕ
 
 -- the most that the next read hands out; behind the last piece it is all that is left
 abbrev pub piece_of : Script → ℕ
@@ -36,8 +38,12 @@ after_failed_read s = record { left = s.left; pieces = s.pieces; fail_at = s.fai
 
 -- the sink after these were written
 abbrev pub after_write : Tape → List ℕ → Tape
-after_write t bytes = record { written = t.written ++ bytes; fail_at = t.fail_at; calls = one_more t.calls; faults = t.faults }
+after_write t bytes = record t { written = t.written ++ bytes; calls = one_more t.calls }
 
--- the sink after a write that failed
+-- the sink after a write that failed as it was told to
 abbrev pub after_failed_write : Tape → Tape
-after_failed_write t = record { written = t.written; fail_at = t.fail_at; calls = one_more t.calls; faults = one_more t.faults }
+after_failed_write t = record t { calls = one_more t.calls; faults = one_more t.faults }
+
+-- the sink after a write that found no memory
+abbrev pub after_unkept_write : Tape → Tape
+after_unkept_write t = record t { calls = one_more t.calls; faults = one_more t.faults; unkept = one_more t.unkept }

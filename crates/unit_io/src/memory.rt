@@ -1,5 +1,5 @@
 //! A source and a sink over memory, which tell all that they hold.
-ghost use Rattle.std.specs.Prelude.{◌≡◌, ◌+◌, ◌-◌, ◌^◌, ◌≤◌, ◌<◌, ◌↔◌, Some, [], length, take, drop, min, All, Contains, IsErr, IfOk, OnErr};
+ghost use Rattle.std.specs.Prelude.{◌≡◌, ◌+◌, ◌-◌, ◌^◌, ◌≤◌, ◌<◌, ◌↔◌, Some, [], length, take, drop, min, slice_index_or, All, Contains, IsErr, IfOk, OnErr};
 
 use crate::stream::{Failed, Sink, Source};
 use std::alloc::Global;
@@ -9,19 +9,33 @@ use unit_types::Bytes;
 /// How many bytes a `MemSink` takes at a write, so that a longer piece needs several.
 pub const WRITE_LIMIT: usize = 64;
 
-fn one_more(count: u64) -> u64
+/// The count one higher; at `u64::MAX` it stands still.
+pub(crate) fn one_more(count: u64) -> u64
     ensures { result ≡ min (count + 1) (2 ^ 64 - 1) }
 {
     count.saturating_add(1)
 }
 
-// Moves n bytes of `content` from the place `at` on into the front of `buf`.
-fn hand_out(content: &[u8], at: usize, buf: &mut [u8], n: usize)
+/// Moves n bytes of `content` from the place `at` on into the front of `buf`.
+pub(crate) fn hand_out(content: &[u8], at: usize, buf: &mut [u8], n: usize)
     requires there { at + n ≤ length content.now }
     requires fits { n ≤ length buf.old }
-    ensures { take n buf.new ≡ take n (drop at content.now) }
+    ensures front { take n buf.new ≡ take n (drop at content.now) }
+    ensures behind { drop n buf.new ≡ drop n buf.old }
 {
     buf[..n].copy_from_slice(&content[at..at + n]);
+}
+
+// The most that this read hands out; behind the last piece it is all that is left.
+fn piece_at(pieces: &[usize], call: u64, left: usize) -> usize
+    requires { All (λ n. 0 < n) pieces.now }
+    ensures value { result ≡ slice_index_or pieces.now call left }
+    ensures some { result ≡ 0 → left ≡ 0 }
+{
+    match pieces.get(call as usize) {
+        Some(most) => *most,
+        None => left,
+    }
 }
 
 /// A source over memory.
@@ -87,6 +101,8 @@ impl Source for MemSource {
         ensures size { length buf.new ≡ length buf.old }
         ensures bytes { IfOk result (λ n. Takes (Some self.old.left) (Some self.new.left) (take n buf.new)) }
         ensures end { IfOk result (λ n. n ≡ 0 → 0 < length buf.old → IsAtEnd (Some self.old.left)) }
+        ensures behind { IfOk result (λ n. drop n buf.new ≡ drop n buf.old) }
+        ensures untouched { OnErr result (buf.new ≡ buf.old) }
         ensures same { OnErr result (Some self.new.left ≡ Some self.old.left) }
         ensures cause { HasCause self.old.faults self.new.faults result }
     {
@@ -98,10 +114,7 @@ impl Source for MemSource {
         }
         let content = self.content.as_slice();
         let left = content.len() - self.at;
-        let piece = match self.pieces.get(call as usize) {
-            Some(most) => *most,
-            None => left,
-        };
+        let piece = piece_at(self.pieces.as_slice(), call, left);
         let n = buf.len().min(piece.min(left));
         hand_out(content, self.at, buf, n);
         self.at += n;
@@ -111,14 +124,15 @@ impl Source for MemSource {
 
 /// A sink over memory.
 ///
-/// It takes at most `WRITE_LIMIT` bytes at a write. The writes numbered in `fail_at`, from 0, fail; so does one that
-/// finds no memory.
+/// It takes at most `WRITE_LIMIT` bytes at a write. The writes numbered in `fail_at`, from 0, fail, and beside them those
+/// alone that find no memory, which are counted.
 #[derive(Debug, Drop)]
 pub struct MemSink {
     written: Bytes,
     fail_at: Vec<u64>,
     calls: u64,
     faults: u64,
+    unkept: u64,
 }
 
 impl Model for MemSink {
@@ -126,7 +140,7 @@ impl Model for MemSink {
 
     ghost Value = { Tape };
 
-    ghost view = { λ s. record { written = s.written; fail_at = s.fail_at.items; calls = s.calls; faults = s.faults } };
+    ghost view = { λ s. record { written = s.written; fail_at = s.fail_at.items; calls = s.calls; faults = s.faults; unkept = s.unkept } };
 }
 
 impl MemSink {
@@ -134,13 +148,14 @@ impl MemSink {
 
     /// A sink to which nothing was written yet.
     pub fn open(alloc: Global, fail_at: Vec<u64>) -> MemSink
-        ensures { result ≡ record { written = []; fail_at = fail_at.items; calls = 0; faults = 0 } }
+        ensures { result ≡ record { written = []; fail_at = fail_at.items; calls = 0; faults = 0; unkept = 0 } }
     {
         MemSink {
             written: Bytes::of(Vec::new(alloc)),
             fail_at,
             calls: 0,
             faults: 0,
+            unkept: 0,
         }
     }
 
@@ -155,7 +170,7 @@ impl MemSink {
 impl Sink for MemSink {
     ghost use Rattle.std.specs.Prelude.{take};
     ghost use Rattle.unit_io.specs.Causes.{HasCause};
-    ghost use Rattle.unit_io.specs.Memory.{after_write, after_failed_write};
+    ghost use Rattle.unit_io.specs.Memory.{after_write, after_failed_write, after_unkept_write};
     ghost use Rattle.unit_io.specs.Told.{Adds};
 
     ghost written = { λ s. Some s.written };
@@ -163,10 +178,10 @@ impl Sink for MemSink {
     ghost faults = { λ s. s.faults };
 
     fn write(&mut self, bytes: &[u8]) -> Result<usize, Failed>
-        ensures fails { Contains self.old.fail_at self.old.calls → IsErr result }
+        ensures fails { Contains self.old.fail_at self.old.calls → IsErr result × (self.new ≡ after_failed_write self.old) }
         ensures taken { IfOk result (λ n. n ≡ min 64 (length bytes.now)) }
         ensures after { IfOk result (λ n. self.new ≡ after_write self.old (take n bytes.now)) }
-        ensures failed { OnErr result (self.new ≡ after_failed_write self.old) }
+        ensures unkept { OnErr result ((Contains self.old.fail_at self.old.calls → ⊥) → self.new ≡ after_unkept_write self.old) }
         ensures bound { IfOk result (λ n. n ≤ length bytes.now) }
         ensures some { IfOk result (λ n. 0 < length bytes.now → 0 < n) }
         ensures bytes { IfOk result (λ n. Adds (Some self.old.written) (Some self.new.written) (take n bytes.now)) }
@@ -182,6 +197,7 @@ impl Sink for MemSink {
         let n = bytes.len().min(WRITE_LIMIT);
         if self.written.append(&bytes[..n]).is_err() {
             self.faults = one_more(self.faults);
+            self.unkept = one_more(self.unkept);
             return Err(Failed);
         }
         Ok(n)

@@ -1,5 +1,5 @@
 //! Where bytes come from, and where they go.
-ghost use Rattle.std.specs.Prelude.{◌≡◌, ◌≤◌, ◌<◌, ℕ, List, [], length, take, IfOk, OnErr, Option};
+ghost use Rattle.std.specs.Prelude.{◌≡◌, ◌≤◌, ◌<◌, ℕ, List, [], length, take, drop, IfOk, OnErr, Option};
 ghost use Rattle.unit_io.specs.Causes.{HasCause};
 ghost use Rattle.unit_io.specs.Told.{Adds, Takes, IsAtEnd};
 
@@ -18,14 +18,17 @@ pub trait Source {
     /// How many calls failed.
     ghost faults: { Self → ℕ };
 
-    /// Moves bytes into the front of `buf`, and answers how many. With a `buf` that isn't empty, `Ok(0)` is the end.
+    /// Moves bytes into the front of `buf`, and answers how many. With a `buf` that isn't empty, `Ok(0)` is the end. What
+    /// lies behind them in `buf` stays.
     ///
-    /// Fails only where the count of faults rose in this call; then no byte was moved.
+    /// Fails only where the count of faults rose in this call; then no byte was moved, and all of `buf` stays.
     fn read(&mut self, buf: &mut [u8]) -> Result<usize, Failed>
         ensures bound { IfOk result (λ n. n ≤ length buf.new) }
         ensures size { length buf.new ≡ length buf.old }
         ensures bytes { IfOk result (λ n. Takes (left self.old) (left self.new) (take n buf.new)) }
         ensures end { IfOk result (λ n. n ≡ 0 → 0 < length buf.old → IsAtEnd (left self.old)) }
+        ensures behind { IfOk result (λ n. drop n buf.new ≡ drop n buf.old) }
+        ensures untouched { OnErr result (buf.new ≡ buf.old) }
         ensures same { OnErr result (left self.new ≡ left self.old) }
         ensures cause { HasCause (faults self.old) (faults self.new) result };
 }
