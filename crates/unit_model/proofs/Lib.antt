@@ -1,5 +1,6 @@
 pub mod ChangedCore
 pub mod Changes
+pub mod ChunkWeights
 pub mod FirstEntries
 pub mod HeldChunkSteps
 pub mod HeldFrames
@@ -9,7 +10,9 @@ pub mod HeldOpening
 pub mod HeldRunSteps
 pub mod HeldSound
 pub mod HeldSteps
+pub mod Introductions
 pub mod ItemChanges
+pub mod ListPremises
 pub mod Lists
 pub mod Members
 pub mod MetConditions
@@ -24,10 +27,13 @@ pub mod PartPoints
 pub mod PartSending
 pub mod PartSteps
 pub mod PointCounts
+pub mod Presence
+pub mod RoleLists
+pub mod RoleSteps
+pub mod Rooms
 pub mod Running
-pub mod Sharing
-pub mod Views
 pub mod SeatNotes
+pub mod Sharing
 pub mod SoundRuns
 pub mod StepFacts
 pub mod StreamClasses
@@ -35,4 +41,5 @@ pub mod StreamFrames
 pub mod StreamLaw
 pub mod StreamPoints
 pub mod StreamSteps
+pub mod Views
 pub mod Weights

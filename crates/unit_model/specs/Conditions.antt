@@ -1,8 +1,9 @@
 -- The conditions of a step, in their order, and the first that isn't met.
-use Rattle.std.specs.Prelude.{ℕ, zero, suc, ◌+◌, ◌-◌, ◌*◌, ◌^◌, ◌==◌, ◌&&◌, ◌||◌, not, min, nat_lt, nat_le, Bool, if◌then◌else◌, List, [], ◌∷◌, count_by, length, Option, Some, None}
+use Rattle.std.specs.Prelude.{ℕ, zero, suc, ◌+◌, ◌-◌, ◌*◌, ◌==◌, ◌&&◌, ◌||◌, not, min, nat_lt, nat_le, Bool, if◌then◌else◌, List, [], ◌∷◌, count_by, length, Option, Some, None}
 use Rattle.std.specs.Option.{option_or}
 use Rattle.std.specs.List.{list_any}
 use Rattle.unit_model.specs.Core.{queue_of, item_of, number_in, is_last_in, first_place, first_item, whereabouts_code, seat_of, role_of, chunk_number, owner_code, owner_of, side_start, side_end, side_opened}
+use Rattle.unit_model.specs.Limits.{segment_chunks, stream_limit, place_limit, past_items}
 use Rattle.unit_model.specs.Runs.{chunks_for}
 use Rattle.unit_model.specs.Weights.{weigh}
 use Rattle.unit_model.specs.declared.machine.Core.{Core}
@@ -34,16 +35,16 @@ is_worker core seat = unless (role_of core seat == 1) 1 1 (role_of core seat)
 unfoldable pub is_either : Core → ℕ → Option Unmet
 is_either core seat = unless (nat_le (role_of core seat) 1) 1 2 (role_of core seat)
 
--- 2: the stream is the next one and below 2^62
+-- 2: the stream is the next one and below its limit
 unfoldable pub is_next_stream : Core → ℕ → Option Unmet
-is_next_stream core stream = unless (stream == core.next && nat_lt stream (2 ^ 62)) 2 (min core.next (2 ^ 62)) stream
+is_next_stream core stream = unless (stream == core.next && nat_lt stream stream_limit) 2 (min core.next stream_limit) stream
 
 -- 3: the chunk is in one of these segments
 unfoldable pub is_in_segments : ℕ → ℕ → ℕ → ℕ → Option Unmet
 is_in_segments start end segment chunk =
-    let want = if nat_lt chunk 640 && nat_lt segment start then 640 * start else 640 * end in
-    let found = if nat_lt chunk 640 then chunk_number segment chunk else 2 ^ 32 in
-    unless (nat_lt chunk 640 && (nat_le start segment && nat_lt segment end)) 3 want found
+    let want = if nat_lt chunk segment_chunks && nat_lt segment start then segment_chunks * start else segment_chunks * end in
+    let found = if nat_lt chunk segment_chunks then chunk_number segment chunk else past_items in
+    unless (nat_lt chunk segment_chunks && (nat_le start segment && nat_lt segment end)) 3 want found
 
 -- 4: the chunk's owner
 unfoldable pub has_owner : Core → ℕ → ℕ → Option Unmet
@@ -74,7 +75,7 @@ may_empty core seat queue item = unless (is_there core queue item && (queue == 0
 unfoldable pub may_use : Core → ℕ → ℕ → Option Unmet
 may_use core queue item = unless (is_there core queue item) 5 1 0
 
--- 6: the place is the first one of the list, or the one behind it and below 2^63
+-- 6: the place is the first one of the list, or the one behind it and below its limit
 unfoldable pub is_first_free_place : Core → ℕ → ℕ → Option Unmet
 is_first_free_place core queue place =
     let first = first_place (queue_of core queue).free (queue_of core queue).next_free in
@@ -86,7 +87,7 @@ is_first_line_place core queue place =
     unless (place == first) 6 first place
 
 abbrev pub is_next_place : ℕ → ℕ → Option Unmet
-is_next_place next place = unless (place == next && nat_lt place (2 ^ 63)) 6 (min next (2 ^ 63)) place
+is_next_place next place = unless (place == next && nat_lt place place_limit) 6 (min next place_limit) place
 
 unfoldable pub is_next_line_place : Core → ℕ → ℕ → Option Unmet
 is_next_line_place core queue place = is_next_place (queue_of core queue).next_line place
@@ -118,29 +119,16 @@ unfoldable pub has_tag : Core → ℕ → ℕ → ℕ → Option Unmet
 has_tag core queue item tag = unless ((item_of core queue item).tag == tag) 9 tag (item_of core queue item).tag
 
 unfoldable pub is_tagged : Core → ℕ → ℕ → Option Unmet
-is_tagged core queue item = unless (not ((item_of core queue item).tag == 0)) 9 (2 ^ 63) (item_of core queue item).tag
+is_tagged core queue item = unless (not ((item_of core queue item).tag == 0)) 9 place_limit (item_of core queue item).tag
 
 -- 10: the run has a size of at least 1 and fits its segment and the seat's side
 unfoldable pub fits_side : Core → ℕ → Run → Option Unmet
 fits_side core seat run =
-    let in_segment = nat_lt 0 run.size && nat_le (run.chunk + chunks_for run.size) 640 in
+    let in_segment = nat_lt 0 run.size && nat_le (run.chunk + chunks_for run.size) segment_chunks in
     let on_side = nat_le (side_start core seat) run.segment && nat_lt run.segment (side_end core seat) in
     unless (in_segment && on_side) 10 1 0
 
--- 12: the segment is one of the open ones, which are the lowest of the seat's side
-unfoldable pub is_open : Core → ℕ → ℕ → Option Unmet
-is_open core seat segment =
-    let number = segment - side_start core seat in
-    unless (nat_lt number (side_opened core seat)) 12 (side_opened core seat) number
-
--- 13: the count is the number of open segments of the seat's side, of which one isn't open
-unfoldable pub may_open : Core → ℕ → ℕ → Option Unmet
-may_open core seat count =
-    let opened = side_opened core seat in
-    let some_left = nat_lt opened (side_end core seat - side_start core seat) in
-    unless (some_left && count == opened) 13 (if some_left then opened else 2 ^ 32) count
-
--- ---- 11: the stream's state
+-- 11: the stream's state
 
 abbrev pub has_stream : ℕ → List ℕ → Bool
 has_stream stream streams = list_any (λ other. other == stream) streams
@@ -218,6 +206,19 @@ may_abandon core seat stream =
     let ended = has_stream stream lists.cancelled || has_stream stream lists.abandoned in
     let is_received = list_any (λ part. part.stream == stream && part.last) lists.received in
     unless (is_posted && not (ended || is_received)) 11 1 0
+
+-- 12: the segment is one of the open ones, which are the lowest of the seat's side
+unfoldable pub is_open : Core → ℕ → ℕ → Option Unmet
+is_open core seat segment =
+    let number = segment - side_start core seat in
+    unless (nat_lt number (side_opened core seat)) 12 (side_opened core seat) number
+
+-- 13: the count is the number of open segments of the seat's side, of which one isn't open
+unfoldable pub may_open : Core → ℕ → ℕ → Option Unmet
+may_open core seat count =
+    let opened = side_opened core seat in
+    let some_left = nat_lt opened (side_end core seat - side_start core seat) in
+    unless (some_left && count == opened) 13 (if some_left then opened else past_items) count
 
 -- ---- the conditions of each step, in their order
 

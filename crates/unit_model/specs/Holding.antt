@@ -1,6 +1,7 @@
 -- Who holds what: items are in one place each, chunks have one owner each, and both are those that the shape has. It holds
 -- in the core as it begins, and each step keeps it.
 use Rattle.std.specs.Prelude.{ℕ, ◌≡◌, ◌≢◌, ◌+◌, ◌*◌, ◌<◌, ◌≤◌, ◌==◌, ◌&&◌, ◌||◌, nat_lt, nat_le, Bool, true, false, if◌then◌else◌, List, [], ◌∷◌, get_or, length}
+use Rattle.unit_model.specs.Limits.{segment_chunks}
 use Rattle.unit_model.specs.Conditions.{has_stream}
 use Rattle.unit_model.specs.Core.{blank, queue_of, item_of, seat_of, owner_of, first_place, chunk_number}
 use Rattle.unit_model.specs.Runs.{chunks_for}
@@ -25,7 +26,7 @@ items_of shape queue = if queue == 0 then shape.items else shape.back_items
 -- the core has what its shape says
 pub record HasItsShape (core : Core) : Type 0 where
   pub shape : IsValid core.shape
-  pub chunks : length core.owners ≡ 640 * (core.shape.out_segments + core.shape.back_segments)
+  pub chunks : length core.owners ≡ segment_chunks * (core.shape.out_segments + core.shape.back_segments)
   pub queues : length core.queues ≡ 1 + core.shape.engines
   pub items : (queue : ℕ) → queue < 1 + core.shape.engines → length (queue_of core queue).items ≡ items_of core.shape queue
   pub seats : length core.seats ≡ core.shape.engines + core.shape.workers
@@ -96,7 +97,7 @@ end_segment shape queue = if queue == 0 then shape.out_segments else shape.out_s
 -- the run has a size of at least 1, and lies in one segment of the queue's side
 pub record FitsQueue (shape : Shape) (queue : ℕ) (run : Run) : Type 0 where
   pub some : 1 ≤ run.size
-  pub in_segment : run.chunk + chunks_for run.size ≤ 640
+  pub in_segment : run.chunk + chunks_for run.size ≤ segment_chunks
   pub on_side : (first_segment shape queue ≤ run.segment) × (run.segment < end_segment shape queue)
 
 -- who has the chunks
@@ -123,7 +124,7 @@ pub record HasItsSegments (core : Core) : Type 0 where
   pub out : IsFrom1To core.shape.out_segments core.opened.out
   pub back : IsFrom1To core.shape.back_segments core.opened.back
   -- no one has a chunk of a segment that isn't open
-  pub unopened : (segment chunk : ℕ) → chunk < 640 → is_opened core segment ≡ false → owner_of core (chunk_number segment chunk) ≡ Free
+  pub unopened : (segment chunk : ℕ) → chunk < segment_chunks → is_opened core segment ≡ false → owner_of core (chunk_number segment chunk) ≡ Free
 
 -- ---- the streams
 

@@ -1,12 +1,17 @@
+pub mod ByRole
+pub mod ChunkWeights
 pub mod Conditions
 pub mod Core
 pub mod CountLaws
 pub mod Effects
 pub mod Holding
+pub mod Limits
 pub mod Lines
 pub mod Lists
 pub mod Opening
+pub mod OwnLists
 pub mod PartCounts
+pub mod Premises
 pub mod Running
 pub mod Runs
 pub mod Shapes

@@ -1,6 +1,7 @@
 -- The core as it begins: all chunks are free, all items are in the free lists in ascending order, and the next stream is 1.
 use Rattle.std.specs.Prelude.{ℕ, zero, suc, ◌+◌, ◌*◌, List, [], ◌∷◌, ◌++◌, replicate}
 use Rattle.unit_model.specs.Core.{blank, no_seat}
+use Rattle.unit_model.specs.Limits.{segment_chunks}
 use Rattle.unit_model.specs.declared.machine.Core.{Core}
 use Rattle.unit_model.specs.declared.machine.Entry.{Entry}
 use Rattle.unit_model.specs.declared.machine.Owner.TheVariants.{Free}
@@ -26,7 +27,7 @@ opened_core shape = record {
   shape = shape;
   next = 1;
   opened = record { out = 1; back = 1 };
-  owners = replicate (640 * (shape.out_segments + shape.back_segments)) Free;
+  owners = replicate (segment_chunks * (shape.out_segments + shape.back_segments)) Free;
   queues = fresh_queue shape.start shape.items ∷ replicate shape.engines (fresh_queue shape.start shape.back_items);
   seats = replicate (shape.engines + shape.workers) no_seat;
 }

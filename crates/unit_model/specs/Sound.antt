@@ -1,5 +1,6 @@
 -- What is promised of items and chunks, point by point, each in words of its own.
 use Rattle.std.specs.Prelude.{ℕ, ◌≡◌, ◌≢◌, ◌↔◌, ◌+◌, ◌<◌, ◌≤◌, false, List, get_or, length}
+use Rattle.unit_model.specs.Limits.{segment_chunks}
 use Rattle.unit_model.specs.Conditions.{holds}
 use Rattle.unit_model.specs.Core.{queue_of, item_of, owner_of, chunk_number}
 use Rattle.unit_model.specs.Holding.{HasItsShape, IsArmed, IsInRun, FitsQueue, entries_of, is_opened}
@@ -69,7 +70,7 @@ SomeSegmentsAreOpen core = IsFrom1To core.shape.out_segments core.opened.out × 
 -- the chunks of a segment that isn't open are free
 abbrev pub UnopenedChunksAreFree : Core → Type 0
 UnopenedChunksAreFree core =
-    (segment chunk : ℕ) → chunk < 640 → is_opened core segment ≡ false → owner_of core (chunk_number segment chunk) ≡ Free
+    (segment chunk : ℕ) → chunk < segment_chunks → is_opened core segment ≡ false → owner_of core (chunk_number segment chunk) ≡ Free
 
 -- all of them
 pub record HasSoundHoldings (core : Core) : Type 0 where

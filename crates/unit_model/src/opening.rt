@@ -7,8 +7,8 @@ ghost use Rattle.unit_model.specs.Shapes.{IsValid};
 ghost use Rattle.unit_model.specs.Soundness.{IsSound};
 ghost use Rattle.unit_model.specs.declared.machine.Owner.TheVariants.{Free};
 
-use crate::conditions::BLANK;
-use crate::machine::{Core, Entry, Item, Owner, Queue, Seat, Sides};
+use crate::limits::SEGMENT_CHUNKS;
+use crate::machine::{BLANK, Core, Entry, Item, Owner, Queue, Seat, Sides};
 use crate::series::Series;
 use crate::shape::Shape;
 use std::alloc::{AllocError, Global};
@@ -25,7 +25,8 @@ impl Core {
         ensures held { IfOk result (λ core. IsHeldRight core) }
         ensures sound { IfOk result (λ core. IsSound core) }
     {
-        let chunks = 640 * (shape.out_segments as usize + shape.back_segments as usize);
+        let segments = shape.out_segments as u64 + shape.back_segments as u64;
+        let chunks = (SEGMENT_CHUNKS * segments) as usize;
         let queues = fresh_queues(alloc, shape)?;
         Ok(Core {
             shape: *shape,

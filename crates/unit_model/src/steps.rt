@@ -262,7 +262,7 @@ impl Core {
         ensures kept { OnErr result (self.new ≡ self.old) }
     {
         let old = self.item_of(queue, item);
-        let is_engine = self.role_of(seat) == 0;
+        let is_engine = self.role_of(seat).is_engine();
         self.note(seat, settled_note(is_engine, queue, stream, &old))?;
         self.set_item(queue, item, Item { tag: 0, ..old });
         self.set_run_owner(old.run, Owner::Seat(seat));
