@@ -1,8 +1,10 @@
--- A list of a queue has room where an item of the queue isn't in it.
-use Rattle.std.proofs.Common.{ℕ, ◌+◌, ◌≡◌, ◌≤◌, ◌<◌, ◌&&◌, Bool, true, false, List, length, get_or, refl, sym, ap, ◌∙◌, arith, inl, inr}
-use Rattle.std.proofs.lemmas.Bool.{and_parts, ltb-true, cases_eq, cases_lt}
+-- How long a list of a queue is: it has room where an item of the queue isn't in it, and at rest it has all or none.
+use Rattle.std.proofs.Common.{ℕ, zero, suc, ◌+◌, ◌≡◌, ◌≤◌, ◌<◌, ◌&&◌, Bool, true, false, List, [], ◌∷◌, length, get_or, refl, sym, ap, ◌∙◌, arith, inl, inr}
+use Rattle.std.proofs.lemmas.Bool.{and_parts, ltb-true, lt-ltb, cases_eq, cases_lt}
 use Rattle.std.proofs.lemmas.List.{get_or_past}
-use Rattle.unit_model.specs.Holding.{entries_of, has_item, item_in}
+use Rattle.unit_model.specs.AtRest.{LengthsAtRest}
+use Rattle.unit_model.specs.Core.{queue_of}
+use Rattle.unit_model.specs.Holding.{entries_of, has_item, item_in, is_in_free_list, is_in_line}
 use Rattle.unit_model.specs.Sound.{no_entry}
 use Rattle.unit_model.specs.Weights.{weigh, below, one_if, is_number}
 use Rattle.unit_model.specs.declared.machine.Entry.{Entry}
@@ -10,11 +12,18 @@ use Rattle.unit_model.specs.declared.machine.Queue.{Queue}
 use Rattle.unit_model.specs.declared.machine.Whereabouts.{Whereabouts}
 use Rattle.unit_model.proofs.Changes.{weigh_le_each}
 use Rattle.unit_model.proofs.HeldItems.{word_of_free}
-use Rattle.unit_model.proofs.Weights.{weigh_at, weigh_ones, weigh-below, below_le, below-sum, below_is, below_at, below_ones, is_number_same, is_number_other}
+use Rattle.unit_model.proofs.Weights.{weigh_at, weigh_same, weigh_ones, weigh-below, below_le, below-sum, below_same, below_none, below_is, below_at, below_ones, is_number_same, is_number_other}
 
 most_one : (b : Bool) → one_if b ≤ 1
 most_one true = omega arith
 most_one false = omega arith
+
+is_number_flips : (k x : ℕ) → is_number k x ≡ is_number x k
+is_number_flips k x =
+    elim (cases_eq x k) [
+      | inl same ↦ ap (λ (n : ℕ). is_number k n) same ∙ sym (ap (λ (n : ℕ). is_number n k) same)
+      | inr other ↦ is_number_other k x other ∙ sym (is_number_other x k (λ is. other (sym is)))
+    ]
 
 module _ (queue : Queue) (test : Whereabouts → Bool) (entries : List Entry) (count : (item : ℕ) → entries_of item entries ≡ one_if (has_item queue item && test (item_in queue item).whereabouts)) where
   n : ℕ
@@ -66,3 +75,41 @@ module _ (queue : Queue) (test : Whereabouts → Bool) (entries : List Entry) (c
         below_is (length queue.items) item inside,
         below_ones (length queue.items),
       )
+
+  -- as many entries as items whose word says that they are in the list
+  pub list_length : length entries ≡ below (λ item. one_if (has_item queue item && test (item_in queue item).whereabouts)) (length queue.items)
+  list_length =
+      let each : Entry → ℕ → ℕ = λ (e : Entry) k. is_number k e.item in
+      let one : (i : ℕ) (d : Entry) → i < length entries → below (each (get_or entries i d)) (length queue.items) ≡ 1 = λ i d lt.
+      let same : get_or entries i d ≡ get_or entries i no_entry = default_is_none entries i d no_entry lt in
+      let x : ℕ = (get_or entries i no_entry).item in
+      ap (λ (e : Entry). below (each e) (length queue.items)) same
+      ∙ below_same (λ k. is_number k x) (is_number x) (length queue.items) (λ k _. is_number_flips k x)
+      ∙ below_is (length queue.items) x (entry_is_there i lt) in
+      sym (weigh_ones entries)
+      ∙ sym (weigh_same (λ (e : Entry). below (each e) (length queue.items)) (λ (e : Entry). 1) entries one)
+      ∙ weigh-below each (length queue.items) entries
+      ∙ below_same (λ k. entries_of k entries) (λ k. one_if (has_item queue k && test (item_in queue k).whereabouts)) (length queue.items) (λ k _. count k)
+    where
+      default_is_none : (xs : List Entry) (i : ℕ) (d e : Entry) → i < length xs → get_or xs i d ≡ get_or xs i e
+      default_is_none [] i d e lt = absurd (omega arith)
+      default_is_none (x ∷ xs) zero d e lt = refl
+      default_is_none (x ∷ xs) (suc i) d e lt = default_is_none xs i d e (omega arith)
+
+-- ---- at rest
+
+empty_of : (entries : List Entry) → length entries ≡ 0 → entries ≡ []
+empty_of [] none = refl
+empty_of (entry ∷ entries) none = absurd (omega (arith, none))
+
+pub at_rest : LengthsAtRest
+at_rest core queue held rest =
+    let q : Queue = queue_of core queue in
+    let n : ℕ = length (queue_of core queue).items in
+    let free = list_length (queue_of core queue) is_in_free_list (queue_of core queue).free (held.queues queue).free in
+    let line = list_length (queue_of core queue) is_in_line (queue_of core queue).line (held.queues queue).line in
+    let all : below (λ item. one_if (has_item (queue_of core queue) item && is_in_free_list (item_in (queue_of core queue) item).whereabouts)) n ≡ below (λ i. 1) n =
+    below_same (λ item. one_if (has_item (queue_of core queue) item && is_in_free_list (item_in (queue_of core queue) item).whereabouts)) (λ i. 1) n (λ item lt. rw (lt-ltb item n lt, rest item lt) refl) in
+    let none : below (λ item. one_if (has_item (queue_of core queue) item && is_in_line (item_in (queue_of core queue) item).whereabouts)) n ≡ 0 =
+    below_none (λ item. one_if (has_item (queue_of core queue) item && is_in_line (item_in (queue_of core queue) item).whereabouts)) n (λ item lt. rw (lt-ltb item n lt, rest item lt) refl) in
+    (free ∙ all ∙ below_ones n, empty_of (queue_of core queue).line (line ∙ none))

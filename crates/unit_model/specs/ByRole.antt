@@ -21,7 +21,8 @@ pub record ItemByRole (role : ℕ → ℕ) (queue : ℕ) (it : Item) : Type 0 wh
   pub poster : (seat : ℕ)
       → role seat ≡ 0 → queue ≡ 0 → it.whereabouts ≡ WithSeat seat → it.tag ≢ 0 → it.part ≡ seat
   -- of the back queues an engine holds items of its own alone
-  pub own : (seat : ℕ) → role seat ≡ 0 → queue ≢ 0 → it.whereabouts ≡ WithSeat seat → queue ≡ 1 + seat
+  pub own : (seat : ℕ) → role seat ≡ 0 → queue ≢ 0 → it.whereabouts ≡ WithSeat seat
+      → queue ≡ 1 + seat
 
 -- so of all items
 abbrev pub ItemsByRole : Core → Type 0

@@ -16,7 +16,8 @@ use Rattle.unit_model.specs.declared.runs.Run.{Run}
 
 -- nothing where the condition holds, and else its number with what it wants and what was found
 abbrev pub unless : Bool → ℕ → ℕ → ℕ → Option Unmet
-unless holds rule want found = if holds then None else Some (record { rule = rule; want = want; found = found })
+unless holds rule want found =
+    if holds then None else Some (record { rule = rule; want = want; found = found })
 
 -- the first of the conditions that isn't met
 abbrev pub first_of : List (Option Unmet) → Option Unmet
@@ -37,26 +38,32 @@ is_either core seat = unless (nat_le (role_of core seat) 1) 1 2 (role_of core se
 
 -- 2: the stream is the next one and below its limit
 unfoldable pub is_next_stream : Core → ℕ → Option Unmet
-is_next_stream core stream = unless (stream == core.next && nat_lt stream stream_limit) 2 (min core.next stream_limit) stream
+is_next_stream core stream =
+    unless (stream == core.next && nat_lt stream stream_limit) 2 (min core.next stream_limit) stream
 
 -- 3: the chunk is in one of these segments
 unfoldable pub is_in_segments : ℕ → ℕ → ℕ → ℕ → Option Unmet
 is_in_segments start end segment chunk =
-    let want = if nat_lt chunk segment_chunks && nat_lt segment start then segment_chunks * start else segment_chunks * end in
-    let found = if nat_lt chunk segment_chunks then chunk_number segment chunk else past_items in
-    unless (nat_lt chunk segment_chunks && (nat_le start segment && nat_lt segment end)) 3 want found
+    let is_chunk = nat_lt chunk segment_chunks in
+    let want =
+    if is_chunk && nat_lt segment start then segment_chunks * start else segment_chunks * end in
+    let found = if is_chunk then chunk_number segment chunk else past_items in
+    unless (is_chunk && (nat_le start segment && nat_lt segment end)) 3 want found
 
 -- 4: the chunk's owner
 unfoldable pub has_owner : Core → ℕ → ℕ → Option Unmet
-has_owner core code number = unless (owner_code (owner_of core number) == code) 4 code (owner_code (owner_of core number))
+has_owner core code number =
+    unless (owner_code (owner_of core number) == code) 4 code (owner_code (owner_of core number))
 
 -- 4: the owner of so many chunks from this number on, the first that fails
 abbrev pub all_have_owner : Core → ℕ → ℕ → ℕ → Option Unmet
 all_have_owner core code number zero = None
-all_have_owner core code number (suc count) = option_or (has_owner core code number) (all_have_owner core code (number + 1) count)
+all_have_owner core code number (suc count) =
+    option_or (has_owner core code number) (all_have_owner core code (number + 1) count)
 
 unfoldable pub run_has_owner : Core → ℕ → Run → Option Unmet
-run_has_owner core code run = all_have_owner core code (chunk_number run.segment run.chunk) (chunks_for run.size)
+run_has_owner core code run =
+    all_have_owner core code (chunk_number run.segment run.chunk) (chunks_for run.size)
 
 -- 5: queue and item are there
 abbrev pub is_there : Core → ℕ → ℕ → Bool
@@ -65,11 +72,14 @@ is_there core queue item = nat_lt item (length (queue_of core queue).items)
 -- 5, and the queue is this seat's to fill: engines fill queue 0, workers the back queues
 unfoldable pub may_fill : Core → ℕ → ℕ → ℕ → Option Unmet
 may_fill core seat queue item =
-    unless (is_there core queue item && (if role_of core seat == 0 then queue == 0 else not (queue == 0))) 5 1 0
+    unless
+    (is_there core queue item && (if role_of core seat == 0 then queue == 0 else not (queue == 0)))
+    5 1 0
 
 -- 5, and the queue is this seat's to empty: queue 0 a worker's, queue 1 + e that of engine e
 unfoldable pub may_empty : Core → ℕ → ℕ → ℕ → Option Unmet
-may_empty core seat queue item = unless (is_there core queue item && (queue == 0 || queue == 1 + seat)) 5 1 0
+may_empty core seat queue item =
+    unless (is_there core queue item && (queue == 0 || queue == 1 + seat)) 5 1 0
 
 -- 5, where each seat may use each queue
 unfoldable pub may_use : Core → ℕ → ℕ → Option Unmet
@@ -87,7 +97,8 @@ is_first_line_place core queue place =
     unless (place == first) 6 first place
 
 abbrev pub is_next_place : ℕ → ℕ → Option Unmet
-is_next_place next place = unless (place == next && nat_lt place place_limit) 6 (min next place_limit) place
+is_next_place next place =
+    unless (place == next && nat_lt place place_limit) 6 (min next place_limit) place
 
 unfoldable pub is_next_line_place : Core → ℕ → ℕ → Option Unmet
 is_next_line_place core queue place = is_next_place (queue_of core queue).next_line place
@@ -112,20 +123,24 @@ holds core seat queue item = whereabouts_code (item_of core queue item).whereabo
 
 unfoldable pub seat_holds : Core → ℕ → ℕ → ℕ → Option Unmet
 seat_holds core seat queue item =
-    unless (holds core seat queue item) 8 (1 + seat) (whereabouts_code (item_of core queue item).whereabouts)
+    unless (holds core seat queue item)
+    8 (1 + seat) (whereabouts_code (item_of core queue item).whereabouts)
 
 -- 9: the tag is this one, or any but 0
 unfoldable pub has_tag : Core → ℕ → ℕ → ℕ → Option Unmet
-has_tag core queue item tag = unless ((item_of core queue item).tag == tag) 9 tag (item_of core queue item).tag
+has_tag core queue item tag =
+    unless ((item_of core queue item).tag == tag) 9 tag (item_of core queue item).tag
 
 unfoldable pub is_tagged : Core → ℕ → ℕ → Option Unmet
-is_tagged core queue item = unless (not ((item_of core queue item).tag == 0)) 9 place_limit (item_of core queue item).tag
+is_tagged core queue item =
+    unless (not ((item_of core queue item).tag == 0)) 9 place_limit (item_of core queue item).tag
 
 -- 10: the run has a size of at least 1 and fits its segment and the seat's side
 unfoldable pub fits_side : Core → ℕ → Run → Option Unmet
 fits_side core seat run =
     let in_segment = nat_lt 0 run.size && nat_le (run.chunk + chunks_for run.size) segment_chunks in
-    let on_side = nat_le (side_start core seat) run.segment && nat_lt run.segment (side_end core seat) in
+    let on_side =
+    nat_le (side_start core seat) run.segment && nat_lt run.segment (side_end core seat) in
     unless (in_segment && on_side) 10 1 0
 
 -- 11: the stream's state
@@ -137,11 +152,14 @@ has_stream stream streams = list_any (λ other. other == stream) streams
 unfoldable pub may_post : Core → ℕ → ℕ → ℕ → ℕ → Option Unmet
 may_post core seat queue item stream =
     let lists = seat_of core seat in
-    unless (has_stream stream lists.drawn && (not (has_stream stream lists.posted) && (item_of core queue item).part == seat)) 11 1 0
+    let is_new = has_stream stream lists.drawn in
+    let is_own = (item_of core queue item).part == seat in
+    unless (is_new && (not (has_stream stream lists.posted) && is_own)) 11 1 0
 
 -- the stream's last part is sent
 abbrev pub is_last_sent : Core → ℕ → Bool
-is_last_sent core stream = list_any (λ lists. list_any (λ part. part.stream == stream && part.last) lists.sent) core.seats
+is_last_sent core stream =
+    list_any (λ lists. list_any (λ part. part.stream == stream && part.last) lists.sent) core.seats
 
 -- the stream is closed
 abbrev pub is_closed : Core → ℕ → Bool
@@ -153,37 +171,49 @@ is_taken core stream = list_any (λ lists. has_stream stream lists.taken) core.s
 
 -- how many parts of the stream were sent
 abbrev pub parts_sent : Core → ℕ → ℕ
-parts_sent core stream = weigh (λ lists. count_by (λ part. part.stream == stream) lists.sent) core.seats
+parts_sent core stream =
+    weigh (λ lists. count_by (λ part. part.stream == stream) lists.sent) core.seats
 
 -- the seat holds an item of the queue whose tag is the stream
 abbrev pub holds_tagged : Core → ℕ → ℕ → ℕ → Bool
 holds_tagged core seat queue stream =
-    list_any (λ item. whereabouts_code item.whereabouts == 1 + seat && item.tag == stream) (queue_of core queue).items
+    list_any (λ item. whereabouts_code item.whereabouts == 1 + seat && item.tag == stream)
+    (queue_of core queue).items
 
 -- the seat took the stream and the queue's engine posted it; neither is its last part sent nor is it closed; the part
 -- word's number is how many parts were sent; and the seat holds no other part of it that is to be pushed
 unfoldable pub may_send : Core → ℕ → ℕ → ℕ → ℕ → Option Unmet
 may_send core seat queue item stream =
-    let asked = has_stream stream (seat_of core seat).taken && has_stream stream (seat_of core (queue - 1)).posted in
+    let asked =
+    has_stream stream (seat_of core seat).taken
+    && has_stream stream (seat_of core (queue - 1)).posted in
     let unfinished = not (is_last_sent core stream) && not (is_closed core stream) in
     let is_next_part = number_in (item_of core queue item).part == parts_sent core stream in
-    unless (asked && (unfinished && (is_next_part && not (holds_tagged core seat queue stream)))) 11 1 0
+    let is_waiting = holds_tagged core seat queue stream in
+    unless (asked && (unfinished && (is_next_part && not is_waiting))) 11 1 0
 
 unfoldable pub may_arm : Core → ℕ → ℕ → ℕ → ℕ → Option Unmet
 may_arm core seat queue item stream =
-    if queue == 0 then may_post core seat queue item stream else may_send core seat queue item stream
+    if queue == 0
+    then may_post core seat queue item stream
+    else may_send core seat queue item stream
 
 -- the part that the item carries of this stream
 abbrev pub part_of : ℕ → Item → Part
-part_of stream item = record { stream = stream; number = number_in item.part; last = is_last_in item.part }
+part_of stream item =
+    record { stream = stream; number = number_in item.part; last = is_last_in item.part }
 
 abbrev pub is_same_part : Part → Part → Bool
-is_same_part one other = one.stream == other.stream && (one.number == other.number && (if one.last then other.last else not other.last))
+is_same_part one other =
+    one.stream == other.stream
+    && (one.number == other.number && (if one.last then other.last else not other.last))
 
 -- of queue 0: a worker that holds the item takes the stream, or the engine that posted it cancels it
 abbrev pub may_win_request : Core → ℕ → ℕ → ℕ → ℕ → Bool
 may_win_request core seat queue item stream =
-    if role_of core seat == 0 then has_stream stream (seat_of core seat).posted else holds core seat queue item
+    if role_of core seat == 0
+    then has_stream stream (seat_of core seat).posted
+    else holds core seat queue item
 
 -- of queue 1 + e: engine e, holding the item, receives the part, or a worker that holds the item and sent this part closes
 -- the stream
@@ -196,7 +226,11 @@ may_win_part core seat queue item stream =
 
 unfoldable pub may_settle : Core → ℕ → ℕ → ℕ → ℕ → Option Unmet
 may_settle core seat queue item stream =
-    unless (not (stream == 0) && (if queue == 0 then may_win_request core seat queue item stream else may_win_part core seat queue item stream)) 11 1 0
+    let may_win =
+    if queue == 0
+    then may_win_request core seat queue item stream
+    else may_win_part core seat queue item stream in
+    unless (not (stream == 0) && may_win) 11 1 0
 
 -- the seat posted the stream, has neither cancelled nor abandoned it nor received its last part, and some seat took it
 unfoldable pub may_abandon : Core → ℕ → ℕ → Option Unmet

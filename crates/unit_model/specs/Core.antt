@@ -16,7 +16,13 @@ use Rattle.unit_model.specs.declared.machine.Whereabouts.TheVariants.{InFreeList
 
 -- an item that was never used
 abbrev pub blank : Item
-blank = record { tag = 0; stream = 0; run = record { segment = 0; chunk = 0; size = 0 }; part = 0; whereabouts = InFreeList }
+blank = record {
+  tag = 0;
+  stream = 0;
+  run = record { segment = 0; chunk = 0; size = 0 };
+  part = 0;
+  whereabouts = InFreeList;
+}
 
 abbrev pub no_queue : Queue
 no_queue = record { free = []; next_free = 0; line = []; next_line = 0; items = [] }
@@ -53,7 +59,16 @@ whereabouts_code (WithSeat k) = 1 + k
 -- ---- seats
 
 abbrev pub no_seat : SeatLists
-no_seat = record { drawn = []; posted = []; cancelled = []; abandoned = []; received = []; taken = []; sent = []; closed = [] }
+no_seat = record {
+  drawn = [];
+  posted = [];
+  cancelled = [];
+  abandoned = [];
+  received = [];
+  taken = [];
+  sent = [];
+  closed = [];
+}
 
 abbrev pub seat_of : Core → ℕ → SeatLists
 seat_of core seat = get_or core.seats seat no_seat

@@ -1,3 +1,4 @@
+pub mod AtRest
 pub mod ByRole
 pub mod ChunkWeights
 pub mod Conditions

@@ -11,7 +11,8 @@ use Rattle.unit_model.specs.declared.shape.Shape.{Shape}
 -- the first so many items at the places from start on
 abbrev pub first_entries : ℕ → ℕ → List Entry
 first_entries start zero = []
-first_entries start (suc item) = first_entries start item ++ (record { place = start + item; item = item }) ∷ []
+first_entries start (suc item) =
+    first_entries start item ++ (record { place = start + item; item = item }) ∷ []
 
 abbrev pub fresh_queue : ℕ → ℕ → Queue
 fresh_queue start items = record {

@@ -44,4 +44,5 @@ HolderSentLaw = (core : Core) → IsSound core → (seat queue item stream : ℕ
     → IsInHand core seat queue item
     → (item_of core queue item).tag ≡ stream
     → stream ≢ 0
-    → list_any (is_same_part (part_of stream (item_of core queue item))) (seat_of core seat).sent ≡ true
+    → list_any (is_same_part (part_of stream (item_of core queue item))) (seat_of core seat).sent
+    ≡ true

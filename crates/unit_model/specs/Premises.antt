@@ -72,7 +72,7 @@ pub data MaySettle (core : Core) (seat queue item stream : ℕ) : Type 0 where
   Closes : (worker : role_of core seat ≡ 1) (back : queue ≢ 0)
       (held : IsInHand core seat queue item)
       (sent : list_any (is_same_part (part_of stream (item_of core queue item))) (seat_of core seat).sent
-          ≡ true)
+      ≡ true)
       → MaySettle core seat queue item stream
 
 -- an engine that posted the stream, which a worker took, may give it up once
@@ -82,4 +82,4 @@ pub record MayAbandon (core : Core) (seat stream : ℕ) : Type 0 where
   pub uncancelled : has_stream stream (seat_of core seat).cancelled ≡ false
   pub unabandoned : has_stream stream (seat_of core seat).abandoned ≡ false
   pub unreceived :
-    list_any (λ part. part.stream == stream && part.last) (seat_of core seat).received ≡ false
+      list_any (λ part. part.stream == stream && part.last) (seat_of core seat).received ≡ false

@@ -16,7 +16,8 @@ chunks_of run = range_with_len run.chunk (chunks_for run.size)
 
 -- the last look at the chunk found it free
 abbrev pub IsSeenFree : Seen → ℕ → ℕ → Type 0
-IsSeenFree seen segment chunk = IsBitSet (slice_index seen.words (10 * segment + chunk / 64)) (chunk % 64)
+IsSeenFree seen segment chunk =
+    IsBitSet (slice_index seen.words (10 * segment + chunk / 64)) (chunk % 64)
 
 -- in no segment that was looked at did the looks find n chunks after one another free
 abbrev pub HasNoRun : Seen → ℕ → Type 0

@@ -101,7 +101,8 @@ impl Core {
 
     // 1: the role that a pop of the queue wants.
     pub(crate) fn may_pop(&self, seat: u32, queue: u32) -> Option<Unmet>
-        ensures { result ≡ (if queue == 0 then is_worker self.now seat else is_engine self.now seat) }
+        ensures { result
+            ≡ (if queue == 0 then is_worker self.now seat else is_engine self.now seat) }
     {
         if queue == 0 {
             self.is_worker(seat)

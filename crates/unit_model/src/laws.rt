@@ -1,10 +1,13 @@
 //! Laws of the machine: of sound cores, of who holds what, and of streams and parts. Each function does nothing: its
 //! contract is the law.
 ghost use Rattle.std.specs.Prelude.{List, ◌↔◌};
+ghost use Rattle.unit_model.specs.AtRest.{LengthsAtRest};
+ghost use Rattle.unit_model.specs.ByRole.{ItemsByRoleAtFirst, ItemsByRoleStay, SeatsByRoleAtFirst, SeatsByRoleStay};
 ghost use Rattle.unit_model.specs.CountLaws.{CountsAddUp, CountsAreThePoints, CountsAtFirst, StepKeepsParts, StepKeepsStreams};
 ghost use Rattle.unit_model.specs.Effects.{after_step};
 ghost use Rattle.unit_model.specs.Holding.{HasNoStreamZero, IsHeldRight};
 ghost use Rattle.unit_model.specs.Opening.{opened_core};
+ghost use Rattle.unit_model.specs.OwnLists.{HolderSentLaw, OwnSendLaw, WasPostedLaw, WasTakenLaw};
 ghost use Rattle.unit_model.specs.Running.{AllEnabled, Enabled, after_steps};
 ghost use Rattle.unit_model.specs.Shapes.{IsValid};
 ghost use Rattle.unit_model.specs.Sound.{AllChunksAreFree, HasNoChunkWithSeats, HasNoTag, HasSoundHoldings, NamesWhatIsThere};
@@ -70,13 +73,38 @@ pub fn each_run_holds_right()
 /// and these together say no less.
 pub fn held_right_is_each_point()
     ensures { (core : Core)
-        → IsHeldRight core ↔ (HasSoundHoldings core × NamesWhatIsThere core × HasNoStreamZero core) }
+        → IsHeldRight core
+        ↔ (HasSoundHoldings core × NamesWhatIsThere core × HasNoStreamZero core) }
 {}
 
 /// Where no item has a tag and no seat has a chunk, all chunks are free.
 pub fn chunks_are_free_at_rest()
     ensures { (core : Core)
         → IsHeldRight core → HasNoTag core → HasNoChunkWithSeats core → AllChunksAreFree core }
+{}
+
+/// A queue each of whose items is in its free list has an empty line, and a free list as long as there are items.
+pub fn lists_are_whole_at_rest()
+    ensures { LengthsAtRest }
+{}
+
+/// An item in the line of a back queue has a tag; a tagged item of queue 0 that an engine holds was posted by it; an engine
+/// holds items of its own back queue alone. An engine's lists have none of a worker's entries, and the other way round. So it
+/// is at first, and each enabled step keeps it.
+pub fn each_role_has_its_own()
+    ensures items_at_first { ItemsByRoleAtFirst }
+    ensures items_stay { ItemsByRoleStay }
+    ensures seats_at_first { SeatsByRoleAtFirst }
+    ensures seats_stay { SeatsByRoleStay }
+{}
+
+/// What a seat can show of a sound core from its own lists: that a stream which it posted was taken, who posted a tagged item
+/// of queue 0, that it may send a part, and that it sent the part which it holds.
+pub fn own_lists_show_the_rest()
+    ensures taken { WasTakenLaw }
+    ensures posted { WasPostedLaw }
+    ensures sends { OwnSendLaw }
+    ensures sent { HolderSentLaw }
 {}
 
 // ---- streams and parts

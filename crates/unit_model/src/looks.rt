@@ -31,7 +31,8 @@ fn first_item(entries: &[Entry]) -> u64
 
 // Whether an item of this tag is where this code says.
 fn has_held(code: u64, tag: u64, items: &[Item]) -> bool
-    ensures { result ≡ list_any (λ item. whereabouts_code item.whereabouts == code && item.tag == tag) items.now }
+    ensures { result
+        ≡ list_any (λ item. whereabouts_code item.whereabouts == code && item.tag == tag) items.now }
 {
     items
         .iter()
@@ -118,7 +119,8 @@ impl Core {
     }
 
     pub(crate) fn free_place(&self, queue: u32) -> u64
-        ensures { result ≡ first_place (queue_of self.now queue).free (queue_of self.now queue).next_free }
+        ensures { result
+            ≡ first_place (queue_of self.now queue).free (queue_of self.now queue).next_free }
     {
         match self.queue(queue) {
             Some(queue) => first_place(queue.free.as_slice(), queue.next_free),
@@ -127,7 +129,8 @@ impl Core {
     }
 
     pub(crate) fn line_place(&self, queue: u32) -> u64
-        ensures { result ≡ first_place (queue_of self.now queue).line (queue_of self.now queue).next_line }
+        ensures { result
+            ≡ first_place (queue_of self.now queue).line (queue_of self.now queue).next_line }
     {
         match self.queue(queue) {
             Some(queue) => first_place(queue.line.as_slice(), queue.next_line),

@@ -50,7 +50,9 @@ fn free_chunks(alloc: Global, count: usize) -> Result<Series<Owner>, AllocError>
 #[tactic(auto, using(crate::proofs::FirstEntries::one_more_of))]
 fn fresh_queues(alloc: Global, shape: &Shape) -> Result<Vec<Queue>, AllocError>
     requires { IsValid shape.now }
-    ensures { IfOk result (λ queues. queues.items ≡ fresh_queue shape.now.start shape.now.items ∷ replicate shape.now.engines (fresh_queue shape.now.start shape.now.back_items)) }
+    ensures { IfOk result (λ queues. queues.items
+        ≡ fresh_queue shape.now.start shape.now.items
+        ∷ replicate shape.now.engines (fresh_queue shape.now.start shape.now.back_items)) }
 {
     let mut queues = Vec::new(alloc);
     push(&mut queues, fresh_queue(alloc, shape.start, shape.items)?)?;

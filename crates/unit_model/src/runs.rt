@@ -43,7 +43,8 @@ pub struct Seen {
 /// law.
 pub fn run_has_its_chunks()
     ensures inside { (run : Run) (chunk : ℕ)
-        → run.chunk ≤ chunk → chunk < run.chunk + chunks_for run.size → times chunk (chunks_of run) ≡ 1 }
+        → run.chunk ≤ chunk → chunk < run.chunk + chunks_for run.size
+        → times chunk (chunks_of run) ≡ 1 }
     ensures outside { (run : Run) (chunk : ℕ)
         → (chunk < run.chunk) ⊎ (run.chunk + chunks_for run.size ≤ chunk)
         → times chunk (chunks_of run) ≡ 0 }
