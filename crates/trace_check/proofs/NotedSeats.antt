@@ -7,7 +7,8 @@ use Rattle.std.proofs.lemmas.List.{get_or-set_same, get_or-set_other, length-set
 use Rattle.trace_check.specs.Shows.{Agrees, lists_at, is_last_of}
 use Rattle.trace_check.specs.Streams.{known, drawn_by, posted_by, cancelled_by, abandoned_by, taken_by, sent_of, drawn_stream}
 use Rattle.trace_check.specs.declared.streams.Stream.{Stream}
-use Rattle.trace_check.proofs.SeatNotes.{any_snoc, count_snoc, changed_at, unchanged_at, any_changed, any_unchanged, weigh_changed, weigh_unchanged}
+use Rattle.trace_check.proofs.SeatNotes.{any_snoc, count_snoc, any_changed, any_unchanged, weigh_changed}
+use Rattle.unit_model.proofs.Changes.{changed_at, unchanged_at, weigh_unchanged}
 use Rattle.unit_model.specs.Conditions.{has_stream}
 use Rattle.unit_model.specs.Core.{no_seat}
 use Rattle.unit_model.specs.Effects.{noted}

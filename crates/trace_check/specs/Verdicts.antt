@@ -36,7 +36,9 @@ is_abandoned lists stream = has_stream stream lists.abandoned
 
 -- its last part was received, and it wasn't abandoned
 abbrev pub is_accepted : SeatLists → ℕ → Bool
-is_accepted lists stream = list_any (λ part. part.stream == stream && part.last) lists.received && not (is_abandoned lists stream)
+is_accepted lists stream =
+    list_any (λ part. part.stream == stream && part.last) lists.received
+    && not (is_abandoned lists stream)
 
 -- it was never posted
 abbrev pub is_refused : SeatLists → ℕ → Bool
@@ -60,7 +62,8 @@ tally_of core = record {
 }
 
 abbrev pub legal : ℕ → Tally → Verdict
-legal steps t = Legal steps t.free t.chunks t.drawn t.accepted t.cancelled t.abandoned t.refused t.left_open
+legal steps t =
+    Legal steps t.free t.chunks t.drawn t.accepted t.cancelled t.abandoned t.refused t.left_open
 
 -- ---- lines
 
@@ -121,7 +124,8 @@ pass at text core steps = passes (record { core = core; steps = steps; lines = a
 -- a line that says a step, and the first of the step's conditions that isn't met
 abbrev pub on_unmet : Passed → List ℕ → Step → Option Unmet → Judged
 on_unmet at text step None = pass at text (after_step at.core step) (at.steps + 1)
-on_unmet at text step (Some unmet) = decides (Illegal (at.lines + 1) unmet.rule unmet.want unmet.found)
+on_unmet at text step (Some unmet) =
+    decides (Illegal (at.lines + 1) unmet.rule unmet.want unmet.found)
 
 abbrev pub on_step : Passed → List ℕ → Option Step → Judged
 on_step at text None = decides (Broken at.place)
@@ -135,7 +139,8 @@ on_shape at text (Some shape) =
 
 -- a line without its LF, of fewer than 256 bytes
 abbrev pub on_line : Passed → List ℕ → Judged
-on_line at text = if nat_le 256 (length text) then decides (Broken at.place) else on_shape at text (shape_of text)
+on_line at text =
+    if nat_le 256 (length text) then decides (Broken at.place) else on_shape at text (shape_of text)
 
 -- where a check stands: lines have passed and there is this much of the next one, or the verdict is decided
 pub data Standing : Type 0 where

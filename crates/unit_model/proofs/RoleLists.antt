@@ -7,7 +7,7 @@ use Rattle.unit_model.proofs.ChangedCore.{each_changed}
 use Rattle.unit_model.proofs.MetConditions.{each_met, test_of}
 use Rattle.unit_model.proofs.MetSteps.{fill_there}
 use Rattle.unit_model.proofs.StepFacts.{engine_role}
-use Rattle.unit_model.specs.Conditions.{conditions_of, is_either}
+use Rattle.unit_model.specs.Conditions.{conditions_by, conditions_of, is_either}
 use Rattle.unit_model.specs.Core.{blank, no_queue, no_seat, item_of, role_of, seat_of}
 use Rattle.unit_model.specs.Effects.{after_step, with_note, with_item, with_run_owner, with_in_line, with_free, without_first_free, without_first_in_line, with_owner, with_opened, noted, armed_note, settled_note}
 use Rattle.unit_model.specs.Lists.{change_at}
@@ -74,7 +74,7 @@ settled_role queue stream role item low =
     ]
 
 pub seats_by_role_stay : SeatsByRoleStay
-unfolding after_step with_note with_item with_run_owner with_in_line with_free without_first_free without_first_in_line with_owner with_opened conditions_of
+unfolding after_step with_note with_item with_run_owner with_in_line with_free without_first_free without_first_in_line with_owner with_opened conditions_by
 seats_by_role_stay core (Draw seat stream) old met = noted_seats core seat (Drawn stream) old (engine_role core seat (each_met (conditions_of core (Draw seat stream)) met 0))
 seats_by_role_stay core (Claim seat segment chunk) old met = old
 seats_by_role_stay core (Release seat segment chunk) old met = old

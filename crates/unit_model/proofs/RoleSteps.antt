@@ -8,7 +8,7 @@ use Rattle.unit_model.proofs.MetConditions.{each_met, test_of}
 use Rattle.unit_model.proofs.MetSteps.{either_is_there, seat_is_low, fill_there, seat_has_it, first_free, item_is_low}
 use Rattle.unit_model.proofs.StepFacts.{empty_inside, use_inside, tag_is, held_of, sets_after_get, sets_after_pop, sets_after_push, sets_after_give, sets_after_run, sets_after_part, sets_after_arm, sets_after_settle}
 use Rattle.unit_model.proofs.StreamLaw.{not_true}
-use Rattle.unit_model.specs.Conditions.{conditions_of, is_engine, is_worker, is_tagged, is_there, has_stream, holds, may_post, may_arm, may_empty, may_settle, may_win_request, may_win_part}
+use Rattle.unit_model.specs.Conditions.{conditions_by, conditions_of, is_engine, is_worker, is_tagged, is_there, has_stream, holds, may_post, may_arm, may_empty, may_settle, may_win_request, may_win_part}
 use Rattle.unit_model.specs.Core.{queue_of, item_of, role_of, seat_of}
 use Rattle.unit_model.specs.Effects.{after_step, with_note, with_item, with_run_owner, with_in_line, with_free, without_first_free, without_first_in_line, with_owner, with_opened}
 use Rattle.unit_model.specs.Holding.{is_in_free_list}
@@ -67,7 +67,7 @@ engines_fill core seat s queue side is role back =
 -- ---- the steps
 
 pub by_role_stays : ItemsByRoleStay
-unfolding after_step with_note with_item with_run_owner with_in_line with_free without_first_free without_first_in_line with_owner with_opened conditions_of
+unfolding after_step with_note with_item with_run_owner with_in_line with_free without_first_free without_first_in_line with_owner with_opened conditions_by
 by_role_stays core (Draw seat stream) sound old met = old
 by_role_stays core (Claim seat segment chunk) sound old met = old
 by_role_stays core (Release seat segment chunk) sound old met = old

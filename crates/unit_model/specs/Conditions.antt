@@ -256,27 +256,35 @@ may_open core seat count =
 
 -- ---- the conditions of each step, in their order
 
-unfoldable pub conditions_of : Core → Step → List (Option Unmet)
-conditions_of core (Draw seat stream) = is_engine core seat ∷ is_next_stream core stream ∷ []
-conditions_of core (Claim seat segment chunk) =
+-- the eleventh condition, of the steps that have it
+abbrev pub eleventh_of : Core → Step → Option Unmet
+eleventh_of core (Arm seat queue item stream) = may_arm core seat queue item stream
+eleventh_of core (Settle seat queue item stream) = may_settle core seat queue item stream
+eleventh_of core (Abandon seat stream) = may_abandon core seat stream
+eleventh_of core step = None
+
+-- the conditions of a step where this function tells the eleventh, which alone reads the lists of seats
+unfoldable pub conditions_by : Core → (Step → Option Unmet) → Step → List (Option Unmet)
+conditions_by core eleventh (Draw seat stream) = is_engine core seat ∷ is_next_stream core stream ∷ []
+conditions_by core eleventh (Claim seat segment chunk) =
     is_either core seat
     ∷ is_in_segments (side_start core seat) (side_end core seat) segment chunk
     ∷ is_open core seat segment
     ∷ has_owner core 0 (chunk_number segment chunk)
     ∷ []
-conditions_of core (Release seat segment chunk) =
+conditions_by core eleventh (Release seat segment chunk) =
     is_either core seat
     ∷ is_in_segments 0 (core.shape.out_segments + core.shape.back_segments) segment chunk
     ∷ has_owner core (1 + seat) (chunk_number segment chunk)
     ∷ []
-conditions_of core (Open seat count) = is_either core seat ∷ may_open core seat count ∷ []
-conditions_of core (GetItem seat queue item place) =
+conditions_by core eleventh (Open seat count) = is_either core seat ∷ may_open core seat count ∷ []
+conditions_by core eleventh (GetItem seat queue item place) =
     is_either core seat
     ∷ may_fill core seat queue item
     ∷ is_first_free_place core queue place
     ∷ is_first_free_item core queue item
     ∷ []
-conditions_of core (SetRun seat queue item run) =
+conditions_by core eleventh (SetRun seat queue item run) =
     is_either core seat
     ∷ may_fill core seat queue item
     ∷ seat_holds core seat queue item
@@ -284,49 +292,55 @@ conditions_of core (SetRun seat queue item run) =
     ∷ fits_side core seat run
     ∷ run_has_owner core (1 + seat) run
     ∷ []
-conditions_of core (SetPart seat queue item part) =
+conditions_by core eleventh (SetPart seat queue item part) =
     is_either core seat
     ∷ may_fill core seat queue item
     ∷ seat_holds core seat queue item
     ∷ has_tag core queue item 0
     ∷ []
-conditions_of core (Arm seat queue item stream) =
+conditions_by core eleventh (Arm seat queue item stream) =
     is_either core seat
     ∷ may_fill core seat queue item
     ∷ seat_holds core seat queue item
     ∷ has_tag core queue item 0
     ∷ fits_side core seat (item_of core queue item).run
     ∷ run_has_owner core (1 + seat) (item_of core queue item).run
-    ∷ may_arm core seat queue item stream
+    ∷ eleventh (Arm seat queue item stream)
     ∷ []
-conditions_of core (Push seat queue item place) =
+conditions_by core eleventh (Push seat queue item place) =
     is_either core seat
     ∷ may_fill core seat queue item
     ∷ seat_holds core seat queue item
     ∷ is_tagged core queue item
     ∷ is_next_line_place core queue place
     ∷ []
-conditions_of core (Pop seat queue item place) =
+conditions_by core eleventh (Pop seat queue item place) =
     (if queue == 0 then is_worker core seat else is_engine core seat)
     ∷ may_empty core seat queue item
     ∷ is_first_line_place core queue place
     ∷ is_first_line_item core queue item
     ∷ []
-conditions_of core (Settle seat queue item stream) =
+conditions_by core eleventh (Settle seat queue item stream) =
     is_either core seat
     ∷ may_use core queue item
     ∷ has_tag core queue item stream
-    ∷ may_settle core seat queue item stream
+    ∷ eleventh (Settle seat queue item stream)
     ∷ []
-conditions_of core (GiveItem seat queue item place) =
+conditions_by core eleventh (GiveItem seat queue item place) =
     is_either core seat
     ∷ may_use core queue item
     ∷ seat_holds core seat queue item
     ∷ has_tag core queue item 0
     ∷ is_next_free_place core queue place
     ∷ []
-conditions_of core (Abandon seat stream) = is_engine core seat ∷ may_abandon core seat stream ∷ []
+conditions_by core eleventh (Abandon seat stream) = is_engine core seat ∷ eleventh (Abandon seat stream) ∷ []
+
+abbrev pub conditions_of : Core → Step → List (Option Unmet)
+conditions_of core = conditions_by core (eleventh_of core)
 
 -- the first condition of the step that isn't met
+abbrev pub first_unmet_by : Core → (Step → Option Unmet) → Step → Option Unmet
+first_unmet_by core eleventh step = first_of (conditions_by core eleventh step)
+
 abbrev pub first_unmet : Core → Step → Option Unmet
-first_unmet core step = first_of (conditions_of core step)
+first_unmet core = first_unmet_by core (eleventh_of core)

@@ -20,6 +20,7 @@ mod steps;
 mod streams;
 
 pub use conditions::{chunk_number, first_of, is_in_segments, is_next_place, unless};
+pub use enabled::first_unmet;
 pub use laws::{
     a_core_begins_sound, a_run_stays_sound, a_step_keeps_parts, a_step_keeps_streams,
     a_step_stays_sound, all_is_held_right_at_first, chunks_are_free_at_rest,
@@ -33,6 +34,7 @@ pub use limits::{
     SEGMENT_CHUNKS, STREAM_LIMIT,
 };
 pub use lines::step_line;
+pub use looks::Looks;
 pub use machine::{
     BLANK, Core, Entry, Item, Note, Owner, Part, Queue, RunFault, Seat, Sides, Step, StepFault,
     Unmet, Whereabouts,

@@ -10,6 +10,8 @@ ghost use Rattle.unit_model.specs.StreamCounts.{StreamCounts};
 ghost use Rattle.unit_model.specs.declared.machine.Step.{Step};
 
 use crate::conditions::chunk_number;
+use crate::enabled::first_unmet;
+use crate::looks::Looks;
 use crate::machine::{Core, Entry, Item, Note, Owner, RunFault, Step, StepFault, Whereabouts};
 use crate::streams::part_of;
 use std::alloc::AllocError;
@@ -29,7 +31,7 @@ pub fn step_core(core: &mut Core, step: &Step) -> Result<(), StepFault>
     ensures streams { StreamCounts core.old → StreamCounts core.new }
     ensures sound { IsSound core.old → IsSound core.new }
 {
-    if let Some(unmet) = core.first_unmet(step) {
+    if let Some(unmet) = first_unmet(core, step) {
         return Err(StepFault::NotEnabled {
             rule: unmet.rule,
             want: unmet.want,

@@ -6,6 +6,7 @@ ghost use Rattle.unit_model.specs.Core.{is_last_in, item_of, number_in, queue_of
 ghost use Rattle.unit_model.specs.Weights.{weigh};
 
 use crate::conditions::unless;
+use crate::looks::Looks;
 use crate::machine::{Core, Item, Part, Seat, Unmet};
 
 pub(crate) fn has_stream(stream: u64, streams: &[u64]) -> bool
@@ -184,7 +185,7 @@ impl Core {
     }
 
     #[tactic(auto, unfolding(crate::specs::Conditions::may_arm))]
-    pub(crate) fn may_arm(&self, seat: u32, queue: u32, item: u32, stream: u64) -> Option<Unmet>
+    pub(crate) fn arm_unmet(&self, seat: u32, queue: u32, item: u32, stream: u64) -> Option<Unmet>
         ensures { result ≡ may_arm self.now seat queue item stream }
     {
         if queue == 0 {
@@ -219,7 +220,13 @@ impl Core {
     }
 
     #[tactic(auto, unfolding(crate::specs::Conditions::may_settle))]
-    pub(crate) fn may_settle(&self, seat: u32, queue: u32, item: u32, stream: u64) -> Option<Unmet>
+    pub(crate) fn settle_unmet(
+        &self,
+        seat: u32,
+        queue: u32,
+        item: u32,
+        stream: u64,
+    ) -> Option<Unmet>
         ensures { result ≡ may_settle self.now seat queue item stream }
     {
         let may_win = if queue == 0 {
@@ -231,7 +238,7 @@ impl Core {
     }
 
     #[tactic(auto, unfolding(crate::specs::Conditions::may_abandon))]
-    pub(crate) fn may_abandon(&self, seat: u32, stream: u64) -> Option<Unmet>
+    pub(crate) fn abandon_unmet(&self, seat: u32, stream: u64) -> Option<Unmet>
         ensures { result ≡ may_abandon self.now seat stream }
     {
         let is_posted = self.has_posted(seat, stream) && self.is_taken(stream);
