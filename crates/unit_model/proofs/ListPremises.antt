@@ -12,7 +12,6 @@ use Rattle.unit_model.proofs.Weights.{weigh_le, weigh_some, is_number_other}
 use Rattle.unit_model.specs.Conditions.{has_stream, is_taken, part_of, is_same_part}
 use Rattle.unit_model.specs.Core.{blank, no_seat, queue_of, item_of, seat_of}
 use Rattle.unit_model.specs.PartCounts.{parts_by_seat, sent, of_stream, same_part, times_sent}
-use Rattle.unit_model.specs.Soundness.{IsSound}
 use Rattle.unit_model.specs.StreamCounts.{by_seat, by_all, posted, cancelled, taken, line_tags, StreamCounts}
 use Rattle.unit_model.specs.Weights.{weigh, one_if, is_number, times}
 use Rattle.unit_model.specs.declared.machine.Core.{Core}

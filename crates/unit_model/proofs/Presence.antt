@@ -1,11 +1,11 @@
 -- What is there: what a seat holds, the sides of seats, and the shape after a step.
-use Rattle.std.proofs.Common.{ℕ, ◌+◌, ◌≡◌, ◌≢◌, ◌≤◌, ◌<◌, ◌==◌, nat_lt, inl, inr, List, length, get_or, refl, sym, ap, ◌∙◌, arith}
+use Rattle.std.proofs.Common.{ℕ, ◌+◌, ◌≡◌, ◌≢◌, ◌≤◌, ◌<◌, ◌==◌, inl, inr, List, length, get_or, refl, sym, ap, ◌∙◌, arith}
 use Rattle.std.proofs.lemmas.Bool.{cases_lt, cases_Bool, le-ltb, lt-ltb}
 use Rattle.std.proofs.lemmas.List.{get_or_past}
 use Rattle.unit_model.proofs.Changes.{changed_at, unchanged_at, changed_length}
 use Rattle.unit_model.proofs.ItemChanges.{queue_there}
 use Rattle.unit_model.proofs.MetSteps.{role_is_there}
-use Rattle.unit_model.specs.Core.{blank, no_queue, queue_of, item_of, role_of, owner_of, side_start, side_end, side_opened}
+use Rattle.unit_model.specs.Core.{blank, no_queue, queue_of, role_of, owner_of, side_start, side_end, side_opened}
 use Rattle.unit_model.specs.Effects.{after_step, with_note, with_item, with_run_owner, with_in_line, with_free, without_first_free, without_first_in_line, with_owner, with_opened}
 use Rattle.unit_model.specs.Holding.{HasItsShape, items_of}
 use Rattle.unit_model.specs.Lists.{change_at}

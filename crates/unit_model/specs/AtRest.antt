@@ -1,9 +1,8 @@
 -- Queues at rest: each item is in the free list.
-use Rattle.std.specs.Prelude.{ℕ, ◌≡◌, ◌<◌, List, [], length}
+use Rattle.std.specs.Prelude.{ℕ, ◌≡◌, ◌<◌, [], length}
 use Rattle.unit_model.specs.Core.{queue_of, item_of}
 use Rattle.unit_model.specs.Holding.{IsHeldRight}
 use Rattle.unit_model.specs.declared.machine.Core.{Core}
-use Rattle.unit_model.specs.declared.machine.Queue.{Queue}
 use Rattle.unit_model.specs.declared.machine.Whereabouts.TheVariants.{InFreeList}
 
 -- each item of the queue is in its free list
