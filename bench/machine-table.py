@@ -1,7 +1,7 @@
 """python3 bench/machine-table.py  compares docs/machine.tsv with the conditions of each step.
 
 The last column of the table has the numbers of a step's conditions, in their order. The definition of the conditions is
-`conditions_of` in crates/unit_model/specs/Conditions.antt; the number of a condition is the one that its definition passes
+`conditions_by` in crates/unit_model/specs/Conditions.antt; the number of a condition is the one that its definition passes
 to `unless`. Exits with 1 where a row differs or a step has no row.
 """
 
@@ -43,8 +43,9 @@ def number_of(name, bodies):
 def conditions(text):
     """The numbers of each step's conditions, in their order, by the step's name in small letters."""
     bodies = definitions(text)
+    bodies["eleventh"] = bodies["eleventh_of"]
     table = {}
-    for clause in re.split(r"^conditions_of core ", bodies["conditions_of"], flags=re.M)[1:]:
+    for clause in re.split(r"^conditions_by core eleventh ", bodies["conditions_by"], flags=re.M)[1:]:
         head, body = clause.split("=", 1)
         body = re.sub(r"--.*", "", body)
         numbers = []

@@ -23,6 +23,8 @@ pub mod PartFrames
 pub mod PartLaw
 pub mod PartLists
 pub mod PartNotes
+pub mod PartOrderBack
+pub mod PartOrderOthers
 pub mod PartPoints
 pub mod PartSending
 pub mod PartSteps

@@ -12,6 +12,7 @@ pub mod Lists
 pub mod Opening
 pub mod OwnLists
 pub mod PartCounts
+pub mod PartOrder
 pub mod Premises
 pub mod Running
 pub mod Runs

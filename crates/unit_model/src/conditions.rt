@@ -22,8 +22,8 @@ pub fn unless(holds: bool, rule: u8, want: u64, found: u64) -> Option<Unmet>
     }
 }
 
-/// The first of the conditions that isn't met.
-pub fn first_of(conditions: &[Option<Unmet>]) -> Option<Unmet>
+// The first of the conditions that isn't met.
+pub(crate) fn first_of(conditions: &[Option<Unmet>]) -> Option<Unmet>
     ensures { result ≡ first_of conditions.now }
 {
     match conditions {
@@ -37,40 +37,6 @@ pub fn chunk_number(segment: u32, chunk: u32) -> u64
     ensures { result ≡ chunk_number segment chunk }
 {
     SEGMENT_CHUNKS * segment as u64 + chunk as u64
-}
-
-/// 3: the chunk is in one of the segments from `start` up to `end`.
-#[tactic(auto, unfolding(crate::specs::Conditions::is_in_segments))]
-pub fn is_in_segments(start: u64, end: u64, segment: u32, chunk: u32) -> Option<Unmet>
-    requires start { start < 2 ^ 33 }
-    requires end { end < 2 ^ 33 }
-    ensures { result ≡ is_in_segments start end segment chunk }
-{
-    let is_chunk = (chunk as u64) < SEGMENT_CHUNKS;
-    let number = segment as u64;
-    let want = if is_chunk && number < start {
-        SEGMENT_CHUNKS * start
-    } else {
-        SEGMENT_CHUNKS * end
-    };
-    let found = if is_chunk {
-        chunk_number(segment, chunk)
-    } else {
-        PAST_ITEMS
-    };
-    unless(is_chunk && start <= number && number < end, 3, want, found)
-}
-
-/// 6: the place is the one behind the list, and below its limit.
-pub fn is_next_place(next: u64, place: u64) -> Option<Unmet>
-    ensures { result ≡ is_next_place next place }
-{
-    unless(
-        place == next && place < PLACE_LIMIT,
-        6,
-        next.min(PLACE_LIMIT),
-        place,
-    )
 }
 
 fn role_of<L: Looks>(looks: &L, seat: u32) -> Role
@@ -104,7 +70,7 @@ fn side_opened<L: Looks>(looks: &L, seat: u32) -> u64
     }
 }
 
-// 1: the seat has the role.
+// 1: the seat is an engine's.
 #[tactic(auto, unfolding(crate::specs::Conditions::is_engine))]
 pub(crate) fn is_engine<L: Looks>(looks: &L, seat: u32) -> Option<Unmet>
     ensures { result ≡ is_engine (L.core looks.now) seat }
@@ -113,7 +79,7 @@ pub(crate) fn is_engine<L: Looks>(looks: &L, seat: u32) -> Option<Unmet>
     unless(role == Role::Engine.code(), 1, 0, role)
 }
 
-// 1: the seat has the role.
+// 1: the seat is a worker's.
 #[tactic(auto, unfolding(crate::specs::Conditions::is_worker))]
 pub(crate) fn is_worker<L: Looks>(looks: &L, seat: u32) -> Option<Unmet>
     ensures { result ≡ is_worker (L.core looks.now) seat }
@@ -122,7 +88,7 @@ pub(crate) fn is_worker<L: Looks>(looks: &L, seat: u32) -> Option<Unmet>
     unless(role == Role::Worker.code(), 1, 1, role)
 }
 
-// 1: the seat has the role.
+// 1: the seat is an engine's or a worker's.
 #[tactic(auto, unfolding(crate::specs::Conditions::is_either))]
 pub(crate) fn is_either<L: Looks>(looks: &L, seat: u32) -> Option<Unmet>
     ensures { result ≡ is_either (L.core looks.now) seat }
@@ -154,6 +120,28 @@ pub(crate) fn is_next_stream<L: Looks>(looks: &L, stream: u64) -> Option<Unmet>
         looks.next_stream().min(STREAM_LIMIT),
         stream,
     )
+}
+
+// 3: the chunk is in one of the segments from `start` up to `end`.
+#[tactic(auto, unfolding(crate::specs::Conditions::is_in_segments))]
+pub(crate) fn is_in_segments(start: u64, end: u64, segment: u32, chunk: u32) -> Option<Unmet>
+    requires start { start < 2 ^ 33 }
+    requires end { end < 2 ^ 33 }
+    ensures { result ≡ is_in_segments start end segment chunk }
+{
+    let is_chunk = (chunk as u64) < SEGMENT_CHUNKS;
+    let number = segment as u64;
+    let want = if is_chunk && number < start {
+        SEGMENT_CHUNKS * start
+    } else {
+        SEGMENT_CHUNKS * end
+    };
+    let found = if is_chunk {
+        chunk_number(segment, chunk)
+    } else {
+        PAST_ITEMS
+    };
+    unless(is_chunk && start <= number && number < end, 3, want, found)
 }
 
 // 4: the chunk's owner.
@@ -228,7 +216,7 @@ pub(crate) fn may_empty<L: Looks>(looks: &L, seat: u32, queue: u32, item: u32) -
     unless(looks.is_there(queue, item) && is_own, 5, 1, 0)
 }
 
-// 6: the place is the first one of the list.
+// 6: the place is the first one of the free list.
 #[tactic(auto, unfolding(crate::specs::Conditions::is_first_free_place))]
 pub(crate) fn is_first_free_place<L: Looks>(looks: &L, queue: u32, place: u64) -> Option<Unmet>
     ensures { result ≡ is_first_free_place (L.core looks.now) queue place }
@@ -237,7 +225,7 @@ pub(crate) fn is_first_free_place<L: Looks>(looks: &L, queue: u32, place: u64) -
     unless(place == first, 6, first, place)
 }
 
-// 6: the place is the first one of the list.
+// 6: the place is the first one of the line.
 #[tactic(auto, unfolding(crate::specs::Conditions::is_first_line_place))]
 pub(crate) fn is_first_line_place<L: Looks>(looks: &L, queue: u32, place: u64) -> Option<Unmet>
     ensures { result ≡ is_first_line_place (L.core looks.now) queue place }
@@ -246,7 +234,19 @@ pub(crate) fn is_first_line_place<L: Looks>(looks: &L, queue: u32, place: u64) -
     unless(place == first, 6, first, place)
 }
 
-// 6: the place is the one behind the list.
+// 6: the place is the one behind the list, and below its limit.
+fn is_next_place(next: u64, place: u64) -> Option<Unmet>
+    ensures { result ≡ is_next_place next place }
+{
+    unless(
+        place == next && place < PLACE_LIMIT,
+        6,
+        next.min(PLACE_LIMIT),
+        place,
+    )
+}
+
+// 6: the place is the one behind the line.
 #[tactic(auto, unfolding(crate::specs::Conditions::is_next_line_place))]
 pub(crate) fn is_next_line_place<L: Looks>(looks: &L, queue: u32, place: u64) -> Option<Unmet>
     ensures { result ≡ is_next_line_place (L.core looks.now) queue place }
@@ -254,7 +254,7 @@ pub(crate) fn is_next_line_place<L: Looks>(looks: &L, queue: u32, place: u64) ->
     is_next_place(looks.next_line(queue), place)
 }
 
-// 6: the place is the one behind the list.
+// 6: the place is the one behind the free list.
 #[tactic(auto, unfolding(crate::specs::Conditions::is_next_free_place))]
 pub(crate) fn is_next_free_place<L: Looks>(looks: &L, queue: u32, place: u64) -> Option<Unmet>
     ensures { result ≡ is_next_free_place (L.core looks.now) queue place }
@@ -262,7 +262,7 @@ pub(crate) fn is_next_free_place<L: Looks>(looks: &L, queue: u32, place: u64) ->
     is_next_place(looks.next_free(queue), place)
 }
 
-// 7: the item is the first of the list.
+// 7: the item is the first of the free list.
 #[tactic(auto, unfolding(crate::specs::Conditions::is_first_free_item))]
 pub(crate) fn is_first_free_item<L: Looks>(looks: &L, queue: u32, item: u32) -> Option<Unmet>
     ensures { result ≡ is_first_free_item (L.core looks.now) queue item }
@@ -271,7 +271,7 @@ pub(crate) fn is_first_free_item<L: Looks>(looks: &L, queue: u32, item: u32) -> 
     unless(item as u64 == first, 7, first, item as u64)
 }
 
-// 7: the item is the first of the list.
+// 7: the item is the first of the line.
 #[tactic(auto, unfolding(crate::specs::Conditions::is_first_line_item))]
 pub(crate) fn is_first_line_item<L: Looks>(looks: &L, queue: u32, item: u32) -> Option<Unmet>
     ensures { result ≡ is_first_line_item (L.core looks.now) queue item }

@@ -8,6 +8,7 @@ ghost use Rattle.unit_model.specs.Effects.{after_step};
 ghost use Rattle.unit_model.specs.Holding.{HasNoStreamZero, IsHeldRight};
 ghost use Rattle.unit_model.specs.Opening.{opened_core};
 ghost use Rattle.unit_model.specs.OwnLists.{HolderSentLaw, OwnSendLaw, WasPostedLaw, WasTakenLaw};
+ghost use Rattle.unit_model.specs.PartOrder.{ArmInOrder, CloseInOrder, InOrderAtFirst, OthersInOrder, PopInOrder, PoppedIsNext, PushInOrder, ReceivedInOrder, SettleInOrder};
 ghost use Rattle.unit_model.specs.Running.{AllEnabled, Enabled, after_steps};
 ghost use Rattle.unit_model.specs.Shapes.{IsValid};
 ghost use Rattle.unit_model.specs.Sound.{AllChunksAreFree, HasNoChunkWithSeats, HasNoTag, HasSoundHoldings, NamesWhatIsThere};
@@ -134,4 +135,24 @@ pub fn the_counts_are_the_points()
 /// numbers add up to that of the drawn ones.
 pub fn the_account_is_whole()
     ensures { CountsAddUp }
+{}
+
+/// The parts of a stream that its engine received, popped and not settled, in its line, and armed and not pushed are, joined,
+/// those that the worker sent, in their order, but for a last one that was taken back. So it is at first, and each enabled
+/// step keeps it.
+pub fn parts_stay_in_order()
+    ensures at_first { InOrderAtFirst }
+    ensures arm { ArmInOrder }
+    ensures push { PushInOrder }
+    ensures pop { PopInOrder }
+    ensures settle { SettleInOrder }
+    ensures close { CloseInOrder }
+    ensures others { OthersInOrder }
+{}
+
+/// So an engine receives the parts of a stream as 0, 1, 2 and so on, each as it was sent, and the one that it has popped is
+/// the next.
+pub fn parts_are_received_in_order()
+    ensures received { ReceivedInOrder }
+    ensures popped { PoppedIsNext }
 {}

@@ -19,15 +19,15 @@ mod shape;
 mod steps;
 mod streams;
 
-pub use conditions::{chunk_number, first_of, is_in_segments, is_next_place, unless};
+pub use conditions::{chunk_number, unless};
 pub use enabled::first_unmet;
 pub use laws::{
     a_core_begins_sound, a_run_stays_sound, a_step_keeps_parts, a_step_keeps_streams,
     a_step_stays_sound, all_is_held_right_at_first, chunks_are_free_at_rest,
     each_point_holds_after_every_run, each_role_has_its_own, each_run_holds_right,
     each_step_holds_right, held_right_is_each_point, lists_are_whole_at_rest, nothing_ends_twice,
-    own_lists_show_the_rest, sound_is_each_point, the_account_is_whole, the_counts_are_the_points,
-    the_counts_hold_at_first,
+    own_lists_show_the_rest, parts_are_received_in_order, parts_stay_in_order, sound_is_each_point,
+    the_account_is_whole, the_counts_are_the_points, the_counts_hold_at_first,
 };
 pub use limits::{
     CHUNK_BYTES, LAST_START, MOST_ITEMS, MOST_SEATS, MOST_SEGMENTS, PAST_ITEMS, PLACE_LIMIT,
