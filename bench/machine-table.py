@@ -24,7 +24,7 @@ def definitions(text):
 def number_of(name, bodies):
     """The number of a condition: that of its `unless`, or of the first condition that it is made of."""
     body = bodies[name]
-    after = re.search(r"\bunless \(", body)
+    after = re.search(r"\bunless\s+\(", body)
     if after:
         depth, at = 1, after.end()
         while depth:
