@@ -9,6 +9,7 @@ use Rattle.trace_check.specs.declared.machine.Machine.{Machine}
 use Rattle.trace_check.specs.declared.streams.Stream.{Stream}
 use Rattle.unit_model.specs.Conditions.{has_stream, is_same_part, part_of}
 use Rattle.unit_model.specs.Core.{item_of, queue_of, role_of, no_seat, whereabouts_code}
+use Rattle.unit_model.specs.Limits.{most_items, past_items}
 use Rattle.unit_model.specs.Weights.{weigh, below, one_if}
 use Rattle.unit_model.specs.declared.machine.Core.{Core}
 use Rattle.unit_model.specs.declared.machine.Entry.{Entry}
@@ -51,12 +52,12 @@ times_in item entries = weigh (λ entry. one_if (entry.item == item)) entries
 pub record IsReached (core : Core) (at : ℕ → Option Stream) : Type 0 where
   pub seats : length core.seats ≡ core.shape.engines + core.shape.workers
   pub few : core.shape.engines + core.shape.workers ≤ 8
-  pub small : (q : ℕ) → length (queue_of core q).items ≤ 16384
+  pub small : (q : ℕ) → length (queue_of core q).items ≤ most_items
   -- each tag is a stream with a record
   pub tagged : (q i : ℕ) → (item_of core q i).tag ≢ 0 → is_some (at (item_of core q i).tag) ≡ true
   -- an item stands at most once in one list, and only where it is said to be there; one in the free list has tag 0
   pub free : (q i : ℕ) → times_in i (queue_of core q).free ≤ one_if (whereabouts_code (item_of core q i).whereabouts == 0)
-  pub in_line : (q i : ℕ) → times_in i (queue_of core q).line ≤ one_if (whereabouts_code (item_of core q i).whereabouts == 2 ^ 32)
+  pub in_line : (q i : ℕ) → times_in i (queue_of core q).line ≤ one_if (whereabouts_code (item_of core q i).whereabouts == past_items)
   pub untagged : (q i : ℕ) → whereabouts_code (item_of core q i).whereabouts ≡ 0
       → (item_of core q i).tag ≡ 0
   -- an armed item of a back queue that a worker holds carries a part that this worker sent
