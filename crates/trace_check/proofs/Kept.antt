@@ -126,7 +126,7 @@ two_here queues queue f g lt =
 
 two_apart : (queues : List Queue) (queue : ℕ) (f g : Queue → Queue) (q : ℕ) → q ≢ queue
     → get_or (change_at queue f (change_at queue g queues)) q no_queue ≡ get_or queues q no_queue
-two_apart queues queue f g q ne = unchanged_at queue q f (change_at queue g queues) no_queue ne ∙ unchanged_at queue q g queues no_queue ne
+two_apart queues queue f g q ne = unchanged_at queue f (change_at queue g queues) q no_queue ne ∙ unchanged_at queue g queues q no_queue ne
 
 abbrev pub Kept : Core → (ℕ → Option Stream) → Step → Type 0
 Kept core at step = Agrees (after_step core step).seats (stream_after (frame_of core) at step) × IsReached (after_step core step) (stream_after (frame_of core) at step)
@@ -223,7 +223,7 @@ kept_set_run core at seat queue item run a r unmet =
       a,
       reached_item core at at core.owners core.seats _ queue item new changed r refl (λ k p e. e) (λ p. refl) (λ s. refl) (there_less core queue item there)
           (changed_at queue (λ q. record q { items = set q.items item new }) core.queues no_queue lt) refl
-          (λ q ne. unchanged_at queue q (λ q. record q { items = set q.items item new }) core.queues no_queue ne) meets,
+          (λ q ne. unchanged_at queue (λ k. record k { items = set k.items item new }) core.queues q no_queue ne) meets,
     )
 
 kept_set_part : (core : Core) (at : ℕ → Option Stream) (seat queue item part : ℕ) → Agrees core.seats at → IsReached core at
@@ -250,7 +250,7 @@ kept_set_part core at seat queue item part a r unmet =
       a,
       reached_item core at at core.owners core.seats _ queue item new changed r refl (λ k p e. e) (λ p. refl) (λ s. refl) (there_less core queue item there)
           (changed_at queue (λ q. record q { items = set q.items item new }) core.queues no_queue lt) refl
-          (λ q ne. unchanged_at queue q (λ q. record q { items = set q.items item new }) core.queues no_queue ne) meets,
+          (λ q ne. unchanged_at queue (λ k. record k { items = set k.items item new }) core.queues q no_queue ne) meets,
     )
 
 kept_push : (core : Core) (at : ℕ → Option Stream) (seat queue item place : ℕ) → Agrees core.seats at → IsReached core at
@@ -463,7 +463,7 @@ kept_tag core at seat queue item stream owners f x t new r there is still drawn 
     reached_item core at after owners (change_at seat f core.seats) _ queue item new q_after r (changed_length seat f core.seats) still
     (same_drawn core.seats seat f drawn) (same_known at stream x t is) (there_less core queue item there)
     (changed_at queue (λ q. record q { items = set q.items item new }) core.queues no_queue lt) refl
-    (λ q ne. unchanged_at queue q (λ q. record q { items = set q.items item new }) core.queues no_queue ne) meets
+    (λ q ne. unchanged_at queue (λ k. record k { items = set k.items item new }) core.queues q no_queue ne) meets
 
 -- arming, by whether the queue is the line to the workers
 abbrev pub Armed : Core → (ℕ → Option Stream) → ℕ → ℕ → ℕ → ℕ → List Owner → Bool → Option Stream → Type 0

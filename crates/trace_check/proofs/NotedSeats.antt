@@ -74,7 +74,7 @@ pub touched : (proj : SeatLists → Bool) (b : Bool) (k0 : ℕ) (f : SeatLists �
 touched proj b k0 f seats k lt more =
     ⊎_elim
     (λ (e : k ≡ k0). rw (eq-eqb k k0 e, e) (ap proj (changed_at k0 f seats no_seat lt) ∙ more (lists_at seats k0)))
-    (λ (ne : k ≢ k0). rw (ne_eqb k k0 ne) (ap proj (unchanged_at k0 k f seats no_seat ne) ∙ sym (or_false (proj (lists_at seats k)))))
+    (λ (ne : k ≢ k0). rw (ne_eqb k k0 ne) (ap proj (unchanged_at k0 f seats k no_seat ne) ∙ sym (or_false (proj (lists_at seats k)))))
     (cases_eq k k0)
 
 own_flag : (k k0 engine : ℕ) (old : Bool) → engine ≡ k0 → (((engine == k) && old) || ((k == k0) && true)) ≡ ((engine == k) && true)

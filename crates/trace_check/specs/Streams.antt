@@ -1,5 +1,5 @@
 -- What is kept of each stream, in place of the lists of all seats, and what each step makes of it.
-use Rattle.std.specs.Prelude.{ℕ, ◌+◌, ◌-◌, ◌==◌, nat_lt, ◌&&◌, ◌||◌, not, Bool, true, false, if◌then◌else◌, List, [], ◌∷◌, get_or, set, replicate, Option, Some, None, option_map}
+use Rattle.std.specs.Prelude.{ℕ, ◌+◌, ◌-◌, ◌==◌, nat_lt, ◌&&◌, ◌||◌, not, Bool, true, false, if◌then◌else◌, get_or, set, replicate, Option, Some, None, option_map}
 use Rattle.trace_check.specs.declared.streams.Stream.{Stream}
 use Rattle.unit_model.specs.Conditions.{first_unmet_by, holds, holds_tagged, unless}
 use Rattle.unit_model.specs.Core.{item_of, role_of, number_in, is_last_in}

@@ -1,5 +1,5 @@
 -- The verdict of a trace.
-use Rattle.std.specs.Prelude.{ℕ, ◌+◌, ◌*◌, ◌==◌, ◌&&◌, ◌||◌, not, nat_le, Bool, true, false, if◌then◌else◌, List, [], ◌∷◌, length, max, ◌^◌, ◌-◌, Option, Some, None, count_by}
+use Rattle.std.specs.Prelude.{ℕ, ◌+◌, ◌*◌, ◌==◌, ◌&&◌, ◌||◌, not, nat_le, Bool, true, false, if◌then◌else◌, List, [], ◌∷◌, length, max, Option, Some, None, count_by}
 use Rattle.std.specs.List.{list_any}
 use Rattle.trace_check.specs.Lines.{shape_of, step_of}
 use Rattle.trace_check.specs.declared.verdict.Tally.{Tally}

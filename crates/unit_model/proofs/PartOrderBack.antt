@@ -1,43 +1,41 @@
 -- The order of parts at each step of a back queue.
-use Rattle.std.proofs.Common.{ℕ, zero, suc, ◌+◌, ◌-◌, ◌^◌, ◌≡◌, ◌≢◌, ◌≤◌, ◌<◌, ◌==◌, ◌&&◌, inl, inr, Bool, true, false, List, [], ◌∷◌, ◌++◌, map, filter, drop, set, length, get_or, refl, sym, ap, ◌∙◌, subst, arith}
+use Rattle.std.proofs.Common.{ℕ, ◌+◌, ◌-◌, ◌^◌, ◌≡◌, ◌≢◌, ◌≤◌, ◌<◌, ◌==◌, ◌&&◌, inl, inr, Bool, true, false, List, [], ◌∷◌, ◌++◌, map, filter, drop, set, length, get_or, refl, sym, ap, ◌∙◌, subst, arith}
 use Rattle.std.proofs.Math.Seq.{get_or-append_seam}
-use Rattle.std.proofs.lemmas.Bool.{cases_Bool, cases_eq, cases_lt, ltb-true, eq-eqb, ne_eqb, eqb-false, and_parts}
+use Rattle.std.proofs.lemmas.Bool.{cases_eq, ltb-true, eq-eqb, ne_eqb, eqb-false, and_parts}
 use Rattle.std.proofs.lemmas.List.{append-nil, append_assoc, map-append, get_or_append_left, length-append}
 use Rattle.std.proofs.lemmas.List.Elements.{filter-append}
 use Rattle.unit_model.specs.Conditions.{has_stream, part_of}
-use Rattle.unit_model.specs.Core.{no_queue, no_seat, queue_of, item_of, role_of, seat_of, number_in, first_item}
-use Rattle.unit_model.specs.Effects.{after_step, with_note, with_item, with_run_owner, with_in_line, without_first_in_line, noted}
-use Rattle.unit_model.specs.Holding.{entries_of, has_item, item_in, is_in_line}
-use Rattle.unit_model.specs.Lists.{change_at}
+use Rattle.unit_model.specs.Core.{no_queue, no_seat, queue_of, item_of, role_of, seat_of, first_item}
+use Rattle.unit_model.specs.Effects.{after_step, with_note, with_item, with_run_owner, with_in_line, without_first_in_line}
+use Rattle.unit_model.specs.Holding.{entries_of, has_item, is_in_line}
 use Rattle.unit_model.specs.PartCounts.{is_of_stream, sent, sent_parts, received, no_part}
 use Rattle.unit_model.specs.SoundStreams.{part_in}
 use Rattle.unit_model.specs.Soundness.{IsSound}
 use Rattle.unit_model.specs.StreamCounts.{by_seat, by_all, posted, taken, closed}
-use Rattle.unit_model.specs.Weights.{weigh, one_if, is_number}
+use Rattle.unit_model.specs.Weights.{one_if, is_number}
 use Rattle.unit_model.specs.declared.machine.Core.{Core}
 use Rattle.unit_model.specs.declared.machine.Entry.{Entry}
 use Rattle.unit_model.specs.declared.machine.Item.{Item}
-use Rattle.unit_model.specs.declared.machine.Note.{Note}
 use Rattle.unit_model.specs.declared.machine.Note.TheVariants.{Sent, Received}
 use Rattle.unit_model.specs.declared.machine.Part.{Part}
 use Rattle.unit_model.specs.declared.machine.Queue.{Queue}
 use Rattle.unit_model.specs.declared.machine.Step.TheVariants.{Arm, Push, Pop, Settle}
 use Rattle.unit_model.specs.declared.machine.Whereabouts.{Whereabouts}
 use Rattle.unit_model.specs.declared.machine.Whereabouts.TheVariants.{InLine, WithSeat}
-use Rattle.unit_model.proofs.Changes.{none_counts, any_none_at, part_stays}
+use Rattle.unit_model.proofs.Changes.{any_none_at, part_stays}
 use Rattle.unit_model.proofs.HeldItems.{word_of_free}
 use Rattle.unit_model.proofs.ItemChanges.{SetsItem, each_item, item_here, queue_there}
 use Rattle.unit_model.proofs.MetSteps.{role_is_there}
 use Rattle.unit_model.proofs.PartLists.{taken_at_most_once, sent_parts_here, sent_parts_other}
-use Rattle.unit_model.proofs.PartNotes.{PartsGrow, PartsStay, parts_grow, parts_stay, all_parts_stay}
-use Rattle.unit_model.proofs.SeatNotes.{Adds, Stays, stays, all_stays, has_counts, has_not_counts, is_there_of, one_seat, seat_in_all}
+use Rattle.unit_model.proofs.PartNotes.{PartsGrow, PartsStay, parts_grow, parts_stay}
+use Rattle.unit_model.proofs.SeatNotes.{Adds, Stays, stays, has_counts, has_not_counts, one_seat, seat_in_all}
 use Rattle.unit_model.proofs.StepFacts.{sets_after_arm, sets_after_push, sets_after_pop, sets_after_settle, adds_after_arm, adds_after_settle, armed_back, received_back}
 use Rattle.unit_model.proofs.StreamPoints.{posted_some}
 use Rattle.unit_model.proofs.StreamSteps.{posted_at_most_once}
 use Rattle.unit_model.proofs.Weights.{is_number_same}
 use Rattle.unit_model.proofs.Presence.{twice_here, twice_elsewhere, hand_is_there}
-use Rattle.unit_model.specs.Premises.{Fills, IsInHand, MaySend}
-use Rattle.unit_model.specs.PartOrder.{Each, four, line_parts, all_parts, course, IsOrdered, IsPopped, IsUnpushed, PartsInOrder, Puts, ArmInOrder, PushInOrder, PopInOrder, SettleInOrder, ReceivedInOrder, PoppedIsNext}
+use Rattle.unit_model.specs.Premises.{Fills, IsInHand}
+use Rattle.unit_model.specs.PartOrder.{Each, four, line_parts, all_parts, course, IsOrdered, IsPopped, IsUnpushed, ArmInOrder, PushInOrder, PopInOrder, SettleInOrder, ReceivedInOrder, PoppedIsNext}
 
 -- ---- lists
 

@@ -1,19 +1,18 @@
 -- The order of parts at all other steps, and at first.
-use Rattle.std.proofs.Common.{ℕ, zero, suc, ◌+◌, ◌-◌, ◌^◌, ◌≡◌, ◌≢◌, ◌≤◌, ◌<◌, ◌==◌, ◌&&◌, ◌⊎◌, inl, inr, not, Bool, true, false, List, [], ◌∷◌, ◌++◌, map, filter, drop, set, length, get_or, replicate, refl, sym, ap, ◌∙◌, subst, arith}
-use Rattle.std.specs.Prelude.{None, Contains}
-use Rattle.std.proofs.lemmas.Bool.{cases_Bool, cases_eq, cases_lt, ltb-true, eq-eqb, ne_eqb, eqb-true, eqb-false, and_parts}
+use Rattle.std.proofs.Common.{ℕ, ◌+◌, ◌^◌, ◌≡◌, ◌≢◌, ◌≤◌, ◌<◌, ◌==◌, ◌&&◌, ◌⊎◌, inl, inr, not, Bool, true, false, List, [], ◌∷◌, ◌++◌, map, filter, drop, set, length, get_or, replicate, refl, sym, ap, ◌∙◌, subst, arith}
+use Rattle.std.specs.Prelude.{None}
+use Rattle.std.proofs.lemmas.Bool.{cases_Bool, cases_eq, cases_lt, eq-eqb, ne_eqb, and_parts}
 use Rattle.std.proofs.lemmas.List.{append-nil, append_assoc, get_or-replicate, get_or_past, length-replicate}
 use Rattle.std.proofs.lemmas.List.Elements.{filter-append}
-use Rattle.unit_model.specs.Conditions.{conditions_by, conditions_of, has_stream, part_of, may_arm, may_post}
-use Rattle.unit_model.specs.Core.{blank, no_queue, no_seat, queue_of, item_of, role_of, seat_of, number_in, first_item}
+use Rattle.unit_model.specs.Conditions.{conditions_by, conditions_of, part_of, may_arm, may_post}
+use Rattle.unit_model.specs.Core.{no_queue, no_seat, queue_of, item_of, role_of, seat_of, first_item}
 use Rattle.unit_model.specs.Effects.{after_step, with_note, with_item, with_run_owner, with_in_line, with_free, without_first_free, without_first_in_line, with_owner, with_opened, noted, settled_note, armed_note}
-use Rattle.unit_model.specs.Holding.{entries_of, has_item, item_in, is_in_line, is_in_free_list}
+use Rattle.unit_model.specs.Holding.{entries_of, has_item, is_in_line, is_in_free_list}
 use Rattle.unit_model.specs.Lists.{change_at}
-use Rattle.unit_model.specs.Opening.{fresh_queue, opened_core}
-use Rattle.unit_model.specs.PartCounts.{is_of_stream, of_stream, same_part, sent, sent_parts, received, no_part, parts_by_seat, times_sent}
+use Rattle.unit_model.specs.PartCounts.{is_of_stream, same_part, sent, sent_parts, received, no_part, parts_by_seat, times_sent}
 use Rattle.unit_model.specs.SoundStreams.{part_in}
 use Rattle.unit_model.specs.Soundness.{IsSound}
-use Rattle.unit_model.specs.StreamCounts.{by_seat, by_all, drawn, posted, taken, closed, line_tags}
+use Rattle.unit_model.specs.StreamCounts.{by_seat, by_all, drawn, posted, taken, closed}
 use Rattle.unit_model.specs.Weights.{weigh, one_if, is_number}
 use Rattle.unit_model.specs.declared.machine.Core.{Core}
 use Rattle.unit_model.specs.declared.machine.Entry.{Entry}
@@ -28,22 +27,22 @@ use Rattle.unit_model.specs.declared.machine.Whereabouts.{Whereabouts}
 use Rattle.unit_model.specs.declared.machine.Whereabouts.TheVariants.{InFreeList, InLine, WithSeat}
 use Rattle.unit_model.proofs.Changes.{part_stays}
 use Rattle.unit_model.proofs.HeldItems.{word_of_free, free_word}
-use Rattle.unit_model.proofs.ItemChanges.{SetsItem, item_here, queue_there}
-use Rattle.unit_model.proofs.Members.{part_at_place, part_of_stream, weigh_le_members, weighs_in_all, weight_of_seat}
+use Rattle.unit_model.proofs.ItemChanges.{SetsItem, queue_there}
+use Rattle.unit_model.proofs.Members.{part_at_place, part_of_stream, weighs_in_all, weight_of_seat}
 use Rattle.unit_model.proofs.MetConditions.{each_met, test_of}
-use Rattle.unit_model.proofs.MetSteps.{either_is_there, role_is_there, seat_is_low, seat_has_it, first_free, item_is_low, fill_there}
-use Rattle.unit_model.proofs.PartNotes.{PartsGrow, PartsStay, parts_grow, parts_stay, sent_length, one_itself}
+use Rattle.unit_model.proofs.MetSteps.{either_is_there, role_is_there, seat_is_low, seat_has_it, first_free, item_is_low}
+use Rattle.unit_model.proofs.PartNotes.{PartsStay, parts_stay, sent_length, one_itself}
 use Rattle.unit_model.proofs.PartSteps.{counted_is}
 use Rattle.unit_model.proofs.PartLists.{taken_at_most_once}
 use Rattle.unit_model.proofs.SoundRuns.{keeps_sound}
-use Rattle.unit_model.proofs.SeatNotes.{Adds, Stays, Grows, stays, grows, has_counts, has_not_counts, one_seat, seat_in_all, all_less, all_less_at}
+use Rattle.unit_model.proofs.SeatNotes.{Adds, Stays, Grows, stays, grows, has_counts, has_not_counts, one_seat, seat_in_all, all_less_at}
 use Rattle.unit_model.proofs.StepFacts.{seat_there, engine_there, fill_inside, use_inside, empty_inside, tag_is, sets_after_get, sets_after_run, sets_after_part, sets_after_arm, sets_after_push, sets_after_pop, sets_after_settle, sets_after_give, adds_after_arm, adds_after_settle, adds_after_draw, adds_after_abandon, closed_back}
 use Rattle.unit_model.proofs.StreamPoints.{posted_some}
-use Rattle.unit_model.proofs.StreamSteps.{posted_at_most_once, drawn_at_most_once, drawn_some}
+use Rattle.unit_model.proofs.StreamSteps.{drawn_at_most_once, drawn_some}
 use Rattle.unit_model.proofs.Weights.{is_number_same, is_number_other}
 use Rattle.unit_model.proofs.Presence.{twice_elsewhere, hand_is_there}
 use Rattle.unit_model.specs.Premises.{IsInHand}
-use Rattle.unit_model.specs.PartOrder.{Each, four, line_parts, all_parts, course, IsOrdered, IsPopped, IsUnpushed, PartsInOrder, Puts, IsOther, CloseInOrder, OthersInOrder, InOrderAtFirst}
+use Rattle.unit_model.specs.PartOrder.{Each, line_parts, course, IsOrdered, IsPopped, IsUnpushed, PartsInOrder, CloseInOrder, OthersInOrder, InOrderAtFirst}
 use Rattle.unit_model.proofs.PartOrderBack.{each_gives, map_kept, map_all, line_kept, first_counts, four_same, not_in_line, hands_differ, carried, item_kept, part_kept, popped_stays, unpushed_stays}
 
 -- ---- a stream that no one took has no parts

@@ -8,7 +8,6 @@ use Rattle.unit_model.specs.Opening.{opened_core}
 use Rattle.unit_model.specs.PartCounts.{is_of_stream, sent_parts, no_part}
 use Rattle.unit_model.specs.SoundStreams.{part_in}
 use Rattle.unit_model.specs.Running.{Enabled}
-use Rattle.unit_model.specs.Shapes.{IsValid}
 use Rattle.unit_model.specs.Soundness.{IsSound}
 use Rattle.unit_model.specs.StreamCounts.{by_seat, by_all, posted, taken, closed}
 use Rattle.unit_model.specs.declared.machine.Core.{Core}
