@@ -1,5 +1,6 @@
 -- The words in which an item carries its run of chunks and its part.
 use Rattle.std.specs.Prelude.{ℕ, ◌+◌, ◌*◌, ◌/◌, ◌%◌, ◌^◌, ◌&&◌, nat_lt, nat_le, Bool, if◌then◌else◌, Option, Some, None}
+use Rattle.unit_model.specs.Limits.{most_segments, segment_chunks}
 use Rattle.unit_model.specs.Runs.{chunks_for}
 use Rattle.unit_model.specs.Weights.{one_if}
 use Rattle.unit_model.specs.declared.runs.Run.{Run}
@@ -14,7 +15,9 @@ numbers_of word = record { segment = word / 2 ^ 48; chunk = word / 2 ^ 32 % 2 ^ 
 
 -- there can be such a segment, and the chunks end within it
 abbrev pub is_in_segment : Run → Bool
-is_in_segment run = nat_lt run.segment 16 && (nat_lt run.chunk 640 && nat_le (run.chunk + chunks_for run.size) 640)
+is_in_segment run =
+    nat_lt run.segment (2 * most_segments)
+    && (nat_lt run.chunk segment_chunks && nat_le (run.chunk + chunks_for run.size) segment_chunks)
 
 -- the run of a word, where the word is that of a run within a segment
 unfoldable pub unpack_of : ℕ → Option Run

@@ -7,12 +7,13 @@ use Rattle.std.proofs.lemmas.Bool.{and_parts, cases_eq, eq-eqb, ne_eqb, eqb-true
 use Rattle.trace_check.specs.Shows.{Agrees, IsReached, lists_at, times_in}
 use Rattle.trace_check.specs.Streams.{abandoned_stream, drawn_stream, known, drawn_by, frame_after, posted_by, sent_of, stream_after}
 use Rattle.trace_check.specs.declared.streams.Stream.{Stream}
-use Rattle.trace_check.proofs.MetConditions.{each_met, test_of}
+use Rattle.unit_model.proofs.MetConditions.{each_met, test_of}
 use Rattle.trace_check.proofs.Reached.{Meets, SameDrawn, SameKnown, StillSent, below_same, queue_there, reached_elsewhere, reached_item}
 use Rattle.trace_check.proofs.NotedSeats.{agrees_abandoned, agrees_cancelled, agrees_closed, agrees_drawn, agrees_posted, agrees_received, agrees_sent, agrees_taken, changed, proj_same, touched}
 use Rattle.trace_check.proofs.SameConditions.{frame_of, posted_drawn}
-use Rattle.trace_check.proofs.SeatNotes.{any_snoc, changed_at, count_snoc, unchanged_at, length-changed, weigh_changed, weigh_unchanged}
-use Rattle.unit_model.specs.Conditions.{conditions_of, first_unmet, has_stream, has_tag, is_either, is_engine, is_first_free_item, is_first_line_item, is_same_part, is_next_stream, is_there, is_worker, may_abandon, may_arm, may_empty, may_fill, may_post, may_send, may_settle, may_use, may_win_part, may_win_request, part_of, seat_holds, unless}
+use Rattle.trace_check.proofs.SeatNotes.{any_snoc, count_snoc, weigh_changed}
+use Rattle.unit_model.proofs.Changes.{changed_at, changed_length, unchanged_at, weigh_unchanged}
+use Rattle.unit_model.specs.Conditions.{conditions_by, conditions_of, first_unmet, has_stream, has_tag, is_either, is_engine, is_first_free_item, is_first_line_item, is_same_part, is_next_stream, is_there, is_worker, may_abandon, may_arm, may_empty, may_fill, may_post, may_send, may_settle, may_use, may_win_part, may_win_request, part_of, seat_holds, unless}
 use Rattle.unit_model.specs.Core.{first_item, item_of, is_last_in, no_queue, no_seat, number_in, queue_of, role_of, whereabouts_code}
 use Rattle.unit_model.specs.Effects.{after_step, noted, with_free, with_in_line, with_item, with_note, with_opened, with_owner, with_run_owner, without_first_free, without_first_in_line}
 use Rattle.unit_model.specs.Lists.{change_at}
@@ -121,11 +122,11 @@ code_of_times code want n some le =
 two_here : (queues : List Queue) (queue : ℕ) (f g : Queue → Queue) → queue < length queues
     → get_or (change_at queue f (change_at queue g queues)) queue no_queue ≡ f (g (get_or queues queue no_queue))
 two_here queues queue f g lt =
-    changed_at queue f (change_at queue g queues) no_queue (omega (arith, length-changed queue g queues)) ∙ ap f (changed_at queue g queues no_queue lt)
+    changed_at queue f (change_at queue g queues) no_queue (omega (arith, changed_length queue g queues)) ∙ ap f (changed_at queue g queues no_queue lt)
 
 two_apart : (queues : List Queue) (queue : ℕ) (f g : Queue → Queue) (q : ℕ) → q ≢ queue
     → get_or (change_at queue f (change_at queue g queues)) q no_queue ≡ get_or queues q no_queue
-two_apart queues queue f g q ne = unchanged_at queue q f (change_at queue g queues) no_queue ne ∙ unchanged_at queue q g queues no_queue ne
+two_apart queues queue f g q ne = unchanged_at queue f (change_at queue g queues) q no_queue ne ∙ unchanged_at queue g queues q no_queue ne
 
 abbrev pub Kept : Core → (ℕ → Option Stream) → Step → Type 0
 Kept core at step = Agrees (after_step core step).seats (stream_after (frame_of core) at step) × IsReached (after_step core step) (stream_after (frame_of core) at step)
@@ -134,7 +135,7 @@ Kept core at step = Agrees (after_step core step).seats (stream_after (frame_of 
 
 kept_get_item : (core : Core) (at : ℕ → Option Stream) (seat queue item place : ℕ) → Agrees core.seats at → IsReached core at
     → first_unmet core (GetItem seat queue item place) ≡ None → Kept core at (GetItem seat queue item place)
-unfolding conditions_of after_step with_item without_first_free stream_after
+unfolding conditions_by after_step with_item without_first_free stream_after
 kept_get_item core at seat queue item place a r unmet =
     let met = each_met (conditions_of core (GetItem seat queue item place)) unmet in
     let there = fill_there core seat queue item (met 1) in
@@ -168,7 +169,7 @@ pop_role core seat queue ne met = engine_role core seat (rw (ne_eqb queue 0 ne) 
 
 kept_pop : (core : Core) (at : ℕ → Option Stream) (seat queue item place : ℕ) → Agrees core.seats at → IsReached core at
     → first_unmet core (Pop seat queue item place) ≡ None → Kept core at (Pop seat queue item place)
-unfolding conditions_of after_step with_item without_first_in_line stream_after
+unfolding conditions_by after_step with_item without_first_in_line stream_after
 kept_pop core at seat queue item place a r unmet =
     let met = each_met (conditions_of core (Pop seat queue item place)) unmet in
     let there = empty_there core seat queue item (met 1) in
@@ -201,7 +202,7 @@ kept_pop core at seat queue item place a r unmet =
 
 kept_set_run : (core : Core) (at : ℕ → Option Stream) (seat queue item : ℕ) (run : Run) → Agrees core.seats at → IsReached core at
     → first_unmet core (SetRun seat queue item run) ≡ None → Kept core at (SetRun seat queue item run)
-unfolding conditions_of after_step with_item stream_after
+unfolding conditions_by after_step with_item stream_after
 kept_set_run core at seat queue item run a r unmet =
     let met = each_met (conditions_of core (SetRun seat queue item run)) unmet in
     let there = fill_there core seat queue item (met 1) in
@@ -222,12 +223,12 @@ kept_set_run core at seat queue item run a r unmet =
       a,
       reached_item core at at core.owners core.seats _ queue item new changed r refl (λ k p e. e) (λ p. refl) (λ s. refl) (there_less core queue item there)
           (changed_at queue (λ q. record q { items = set q.items item new }) core.queues no_queue lt) refl
-          (λ q ne. unchanged_at queue q (λ q. record q { items = set q.items item new }) core.queues no_queue ne) meets,
+          (λ q ne. unchanged_at queue (λ k. record k { items = set k.items item new }) core.queues q no_queue ne) meets,
     )
 
 kept_set_part : (core : Core) (at : ℕ → Option Stream) (seat queue item part : ℕ) → Agrees core.seats at → IsReached core at
     → first_unmet core (SetPart seat queue item part) ≡ None → Kept core at (SetPart seat queue item part)
-unfolding conditions_of after_step with_item stream_after
+unfolding conditions_by after_step with_item stream_after
 kept_set_part core at seat queue item part a r unmet =
     let met = each_met (conditions_of core (SetPart seat queue item part)) unmet in
     let there = fill_there core seat queue item (met 1) in
@@ -249,12 +250,12 @@ kept_set_part core at seat queue item part a r unmet =
       a,
       reached_item core at at core.owners core.seats _ queue item new changed r refl (λ k p e. e) (λ p. refl) (λ s. refl) (there_less core queue item there)
           (changed_at queue (λ q. record q { items = set q.items item new }) core.queues no_queue lt) refl
-          (λ q ne. unchanged_at queue q (λ q. record q { items = set q.items item new }) core.queues no_queue ne) meets,
+          (λ q ne. unchanged_at queue (λ k. record k { items = set k.items item new }) core.queues q no_queue ne) meets,
     )
 
 kept_push : (core : Core) (at : ℕ → Option Stream) (seat queue item place : ℕ) → Agrees core.seats at → IsReached core at
     → first_unmet core (Push seat queue item place) ≡ None → Kept core at (Push seat queue item place)
-unfolding conditions_of after_step with_item with_in_line stream_after
+unfolding conditions_by after_step with_item with_in_line stream_after
 kept_push core at seat queue item place a r unmet =
     let met = each_met (conditions_of core (Push seat queue item place)) unmet in
     let there = fill_there core seat queue item (met 1) in
@@ -285,7 +286,7 @@ kept_push core at seat queue item place a r unmet =
 
 kept_give_item : (core : Core) (at : ℕ → Option Stream) (seat queue item place : ℕ) → Agrees core.seats at → IsReached core at
     → first_unmet core (GiveItem seat queue item place) ≡ None → Kept core at (GiveItem seat queue item place)
-unfolding conditions_of after_step with_item with_free stream_after
+unfolding conditions_by after_step with_item with_free stream_after
 kept_give_item core at seat queue item place a r unmet =
     let met = each_met (conditions_of core (GiveItem seat queue item place)) unmet in
     let there = use_there core queue item (met 1) in
@@ -373,7 +374,7 @@ own_of at seat s0 r is drawn = eqb-true r.engine seat (sym (ap (drawn_by seat) i
 
 kept_abandon : (core : Core) (at : ℕ → Option Stream) (seat stream : ℕ) → Agrees core.seats at → IsReached core at
     → first_unmet core (Abandon seat stream) ≡ None → Kept core at (Abandon seat stream)
-unfolding conditions_of may_abandon after_step with_note stream_after
+unfolding conditions_by may_abandon after_step with_note stream_after
 kept_abandon core at seat stream a r unmet =
     let met = each_met (conditions_of core (Abandon seat stream)) unmet in
     let role = engine_role core seat (met 0) in
@@ -386,7 +387,7 @@ kept_abandon core at seat stream a r unmet =
     let P : Option Stream → Type 0 = λ o. Agrees (change_at seat (noted (Abandoned stream)) core.seats) (changed at stream o) × IsReached (record core { seats = change_at seat (noted (Abandoned stream)) core.seats }) (changed at stream o) in
     subst P (sym (ap (option_map abandoned_stream) record_is.1)) (
       agrees_abandoned core.seats at seat stream x a lt record_is.1 own,
-      reached_elsewhere core at _ core.opened core.owners _ r (length-changed seat (noted (Abandoned stream)) core.seats)
+      reached_elsewhere core at _ core.opened core.owners _ r (changed_length seat (noted (Abandoned stream)) core.seats)
           (still_sent core.seats seat _ (λ x. refl)) (same_drawn core.seats seat _ (λ x. refl)) (same_known at stream x _ record_is.1),
     )
 
@@ -411,7 +412,7 @@ one_more_drawn core at seat stream r lt next p =
 
 kept_draw : (core : Core) (at : ℕ → Option Stream) (seat stream : ℕ) → Agrees core.seats at → IsReached core at
     → first_unmet core (Draw seat stream) ≡ None → Kept core at (Draw seat stream)
-unfolding conditions_of is_next_stream after_step with_note stream_after
+unfolding conditions_by is_next_stream after_step with_note stream_after
 kept_draw core at seat stream a r unmet =
     let met = each_met (conditions_of core (Draw seat stream)) unmet in
     let role = engine_role core seat (met 0) in
@@ -423,7 +424,7 @@ kept_draw core at seat stream a r unmet =
     let still = still_sent core.seats seat (noted (Drawn stream)) (λ x. refl) in (
       agrees_drawn core.seats at seat stream a lt absent,
       record {
-        seats = length-changed seat (noted (Drawn stream)) core.seats ∙ r.seats;
+        seats = changed_length seat (noted (Drawn stream)) core.seats ∙ r.seats;
         few = r.few;
         small = r.small;
         tagged = λ q i ne. still_known at stream (drawn_stream seat) (item_of core q i).tag (r.tagged q i ne);
@@ -459,10 +460,10 @@ kept_tag core at seat queue item stream owners f x t new r there is still drawn 
       untagged = untagged;
       held = held;
     } in
-    reached_item core at after owners (change_at seat f core.seats) _ queue item new q_after r (length-changed seat f core.seats) still
+    reached_item core at after owners (change_at seat f core.seats) _ queue item new q_after r (changed_length seat f core.seats) still
     (same_drawn core.seats seat f drawn) (same_known at stream x t is) (there_less core queue item there)
     (changed_at queue (λ q. record q { items = set q.items item new }) core.queues no_queue lt) refl
-    (λ q ne. unchanged_at queue q (λ q. record q { items = set q.items item new }) core.queues no_queue ne) meets
+    (λ q ne. unchanged_at queue (λ k. record k { items = set k.items item new }) core.queues q no_queue ne) meets
 
 -- arming, by whether the queue is the line to the workers
 abbrev pub Armed : Core → (ℕ → Option Stream) → ℕ → ℕ → ℕ → ℕ → List Owner → Bool → Option Stream → Type 0
@@ -538,7 +539,7 @@ armed core at seat queue item stream owners a r role there code false e arm =
 
 kept_arm : (core : Core) (at : ℕ → Option Stream) (seat queue item stream : ℕ) → Agrees core.seats at → IsReached core at
     → first_unmet core (Arm seat queue item stream) ≡ None → Kept core at (Arm seat queue item stream)
-unfolding conditions_of may_arm after_step with_note with_item with_run_owner stream_after
+unfolding conditions_by may_arm after_step with_note with_item with_run_owner stream_after
 kept_arm core at seat queue item stream a r unmet =
     let met = each_met (conditions_of core (Arm seat queue item stream)) unmet in
     armed core at seat queue item stream _ a r (either_small core seat (met 0)) (fill_there core seat queue item (met 1)) (held_code core seat queue item (met 2)) (queue == 0) refl (met 6)
@@ -608,7 +609,7 @@ settle_some core seat queue item stream met e =
 
 kept_settle : (core : Core) (at : ℕ → Option Stream) (seat queue item stream : ℕ) → Agrees core.seats at → IsReached core at
     → first_unmet core (Settle seat queue item stream) ≡ None → Kept core at (Settle seat queue item stream)
-unfolding conditions_of after_step with_note with_item with_run_owner stream_after
+unfolding conditions_by after_step with_note with_item with_run_owner stream_after
 kept_settle core at seat queue item stream a r unmet =
     let met = each_met (conditions_of core (Settle seat queue item stream)) unmet in
     let role = either_small core seat (met 0) in

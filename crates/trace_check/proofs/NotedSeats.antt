@@ -7,7 +7,8 @@ use Rattle.std.proofs.lemmas.List.{get_or-set_same, get_or-set_other, length-set
 use Rattle.trace_check.specs.Shows.{Agrees, lists_at, is_last_of}
 use Rattle.trace_check.specs.Streams.{known, drawn_by, posted_by, cancelled_by, abandoned_by, taken_by, sent_of, drawn_stream}
 use Rattle.trace_check.specs.declared.streams.Stream.{Stream}
-use Rattle.trace_check.proofs.SeatNotes.{any_snoc, count_snoc, changed_at, unchanged_at, any_changed, any_unchanged, weigh_changed, weigh_unchanged}
+use Rattle.trace_check.proofs.SeatNotes.{any_snoc, count_snoc, any_changed, any_unchanged, weigh_changed}
+use Rattle.unit_model.proofs.Changes.{changed_at, unchanged_at, weigh_unchanged}
 use Rattle.unit_model.specs.Conditions.{has_stream}
 use Rattle.unit_model.specs.Core.{no_seat}
 use Rattle.unit_model.specs.Effects.{noted}
@@ -73,7 +74,7 @@ pub touched : (proj : SeatLists → Bool) (b : Bool) (k0 : ℕ) (f : SeatLists �
 touched proj b k0 f seats k lt more =
     ⊎_elim
     (λ (e : k ≡ k0). rw (eq-eqb k k0 e, e) (ap proj (changed_at k0 f seats no_seat lt) ∙ more (lists_at seats k0)))
-    (λ (ne : k ≢ k0). rw (ne_eqb k k0 ne) (ap proj (unchanged_at k0 k f seats no_seat ne) ∙ sym (or_false (proj (lists_at seats k)))))
+    (λ (ne : k ≢ k0). rw (ne_eqb k k0 ne) (ap proj (unchanged_at k0 f seats k no_seat ne) ∙ sym (or_false (proj (lists_at seats k)))))
     (cases_eq k k0)
 
 own_flag : (k k0 engine : ℕ) (old : Bool) → engine ≡ k0 → (((engine == k) && old) || ((k == k0) && true)) ≡ ((engine == k) && true)

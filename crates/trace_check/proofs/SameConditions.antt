@@ -5,10 +5,10 @@ use Rattle.std.specs.Option.{option_or}
 use Rattle.std.specs.List.{list_any}
 use Rattle.std.proofs.lemmas.Bool.{and_parts, eqb-true, eqb-false, leb-true}
 use Rattle.trace_check.specs.Shows.{Agrees, IsReached}
-use Rattle.trace_check.specs.Streams.{conditions_known, drawn_by, first_unmet_known, may_abandon_known, may_arm_known, may_post_known, may_send_known, may_settle_known, posted_by}
+use Rattle.trace_check.specs.Streams.{drawn_by, first_unmet_known, may_abandon_known, may_arm_known, may_post_known, may_send_known, may_settle_known, posted_by}
 use Rattle.trace_check.specs.declared.streams.Stream.{Stream}
-use Rattle.trace_check.proofs.MetConditions.{test_of}
-use Rattle.unit_model.specs.Conditions.{all_have_owner, conditions_of, first_unmet, fits_side, has_owner, has_tag, holds, is_either, is_engine, is_first_free_item, is_first_free_place, is_first_line_item, is_first_line_place, is_in_segments, is_next_free_place, is_next_line_place, is_next_stream, is_open, is_same_part, is_tagged, is_worker, may_abandon, may_arm, may_empty, may_fill, may_open, may_post, may_send, may_settle, may_use, may_win_part, may_win_request, part_of, run_has_owner, seat_holds, unless}
+use Rattle.unit_model.proofs.MetConditions.{test_of}
+use Rattle.unit_model.specs.Conditions.{all_have_owner, conditions_by, first_unmet, fits_side, has_owner, has_tag, holds, is_either, is_engine, is_first_free_item, is_first_free_place, is_first_line_item, is_first_line_place, is_in_segments, is_next_free_place, is_next_line_place, is_next_stream, is_open, is_same_part, is_tagged, is_worker, may_abandon, may_arm, may_empty, may_fill, may_open, may_post, may_send, may_settle, may_use, may_win_part, may_win_request, part_of, run_has_owner, seat_holds, unless}
 use Rattle.unit_model.specs.Core.{item_of, role_of, seat_of, whereabouts_code, chunk_number}
 use Rattle.unit_model.specs.Runs.{chunks_for}
 use Rattle.unit_model.specs.declared.machine.Core.{Core}
@@ -105,7 +105,7 @@ settle_same core at agrees reached seat queue item stream either tag =
 
 pub same_unmet : (core : Core) (at : ℕ → Option Stream) → Agrees core.seats at → IsReached core at → (step : Step)
     → first_unmet core step ≡ first_unmet_known (frame_of core) at step
-unfolding conditions_of conditions_known is_engine is_worker is_either is_next_stream is_in_segments is_open has_owner may_open may_fill may_empty may_use is_first_free_place is_first_free_item is_first_line_place is_first_line_item is_next_line_place is_next_free_place seat_holds has_tag is_tagged fits_side
+unfolding conditions_by is_engine is_worker is_either is_next_stream is_in_segments is_open has_owner may_open may_fill may_empty may_use is_first_free_place is_first_free_item is_first_line_place is_first_line_item is_next_line_place is_next_free_place seat_holds has_tag is_tagged fits_side
 same_unmet core at agrees reached (Draw seat stream) = refl
 same_unmet core at agrees reached (Claim seat segment chunk) = refl
 same_unmet core at agrees reached (Release seat segment chunk) = refl

@@ -1,5 +1,5 @@
 -- What a seat's note changes in what the lists of all seats say.
-use Rattle.std.proofs.Common.{◌≡◌, ◌≢◌, ◌∙◌, ℕ, zero, suc, ◌+◌, ◌<◌, ◌||◌, Bool, true, false, cond, List, [], ◌∷◌, ◌++◌, length, get_or, refl, sym, ap, arith}
+use Rattle.std.proofs.Common.{◌≡◌, ◌∙◌, ℕ, zero, suc, ◌+◌, ◌<◌, ◌||◌, Bool, true, false, cond, List, [], ◌∷◌, ◌++◌, length, refl, sym, ap, arith}
 use Rattle.std.specs.Prelude.{count_by}
 use Rattle.std.specs.List.{list_any}
 use Rattle.std.proofs.lemmas.List.Sums.{sum_by-append}
@@ -29,23 +29,6 @@ count_snoc p xs x =
     let single : count_by p (x ∷ []) ≡ one_if (p x) = omega arith in
     sum_by-append (λ y. cond (p y) 1 0) xs (x ∷ []) ∙ ap (λ n. count_by p xs + n) single
 
-pub changed_at : {X : Type 0} (k : ℕ) (f : X → X) (xs : List X) (d : X) → k < length xs → get_or (change_at k f xs) k d ≡ f (get_or xs k d)
-changed_at k f [] d lt = absurd (omega arith)
-changed_at zero f (x ∷ xs) d lt = refl
-changed_at (suc k) f (x ∷ xs) d lt = changed_at k f xs d (omega arith)
-
-pub unchanged_at : {X : Type 0} (k j : ℕ) (f : X → X) (xs : List X) (d : X) → j ≢ k → get_or (change_at k f xs) j d ≡ get_or xs j d
-unchanged_at k j f [] d ne = refl
-unchanged_at zero zero f (x ∷ xs) d ne = absurd (ne refl)
-unchanged_at zero (suc j) f (x ∷ xs) d ne = refl
-unchanged_at (suc k) zero f (x ∷ xs) d ne = refl
-unchanged_at (suc k) (suc j) f (x ∷ xs) d ne = unchanged_at k j f xs d (λ e. ne (ap suc e))
-
-pub length-changed : {X : Type 0} (k : ℕ) (f : X → X) (xs : List X) → length (change_at k f xs) ≡ length xs
-length-changed k f [] = refl
-length-changed zero f (x ∷ xs) = refl
-length-changed (suc k) f (x ∷ xs) = ap suc (length-changed k f xs)
-
 pub any_changed : {X : Type 0} (g : X → Bool) (k : ℕ) (f : X → X) (b : Bool) (xs : List X) → k < length xs → ((x : X) → g (f x) ≡ (g x || b))
     → list_any g (change_at k f xs) ≡ (list_any g xs || b)
 any_changed g k f b [] lt more = absurd (omega arith)
@@ -62,8 +45,3 @@ pub weigh_changed : {X : Type 0} (g : X → ℕ) (k : ℕ) (f : X → X) (n : �
 weigh_changed g k f n [] lt more = absurd (omega arith)
 weigh_changed g zero f n (x ∷ xs) lt more = omega (arith, more x)
 weigh_changed g (suc k) f n (x ∷ xs) lt more = omega (arith, weigh_changed g k f n xs (omega arith) more)
-
-pub weigh_unchanged : {X : Type 0} (g : X → ℕ) (k : ℕ) (f : X → X) (xs : List X) → ((x : X) → g (f x) ≡ g x) → weigh g (change_at k f xs) ≡ weigh g xs
-weigh_unchanged g k f [] same = refl
-weigh_unchanged g zero f (x ∷ xs) same = omega (arith, same x)
-weigh_unchanged g (suc k) f (x ∷ xs) same = omega (arith, weigh_unchanged g k f xs same)

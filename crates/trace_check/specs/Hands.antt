@@ -28,4 +28,5 @@ count_at hands hand = or_zero (get hand_cmp hands hand)
 
 -- the counts of a list of items, of those that aren't free
 abbrev pub Counts : BTreeMap Hand ℕ → List Item → Type 0
-Counts hands items = (hand : Hand) → hand.code ≢ 0 → count_at hands hand ≡ weigh (λ item. one_if (same_hand hand (hand_of item))) items
+Counts hands items = (hand : Hand) → hand.code ≢ 0
+    → count_at hands hand ≡ weigh (λ item. one_if (same_hand hand (hand_of item))) items

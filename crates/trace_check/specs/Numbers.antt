@@ -25,7 +25,8 @@ has_leading_zero (d ∷ e ∷ ds) = d == 48
 -- the number that these digits spell, of at most `limit`
 abbrev pub digits_of : ℕ → List ℕ → Option ℕ
 digits_of limit digits =
-    if list_all is_ascii_digit digits && nat_le (decimal_value digits) limit then Some (decimal_value digits) else None
+    if list_all is_ascii_digit digits
+    && nat_le (decimal_value digits) limit then Some (decimal_value digits) else None
 
 -- a number: one digit or more, without a leading zero, of a value of at most `limit`
 abbrev pub number_of : ℕ → List ℕ → Option ℕ

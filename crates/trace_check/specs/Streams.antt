@@ -1,7 +1,7 @@
 -- What is kept of each stream, in place of the lists of all seats, and what each step makes of it.
-use Rattle.std.specs.Prelude.{ℕ, ◌+◌, ◌-◌, ◌==◌, nat_lt, ◌&&◌, ◌||◌, not, Bool, true, false, if◌then◌else◌, List, [], ◌∷◌, get_or, set, replicate, Option, Some, None, option_map}
+use Rattle.std.specs.Prelude.{ℕ, ◌+◌, ◌-◌, ◌==◌, nat_lt, ◌&&◌, ◌||◌, not, Bool, true, false, if◌then◌else◌, get_or, set, replicate, Option, Some, None, option_map}
 use Rattle.trace_check.specs.declared.streams.Stream.{Stream}
-use Rattle.unit_model.specs.Conditions.{first_of, conditions_of, unless, holds, holds_tagged, is_either, is_engine, may_fill, may_use, seat_holds, has_tag, fits_side, run_has_owner}
+use Rattle.unit_model.specs.Conditions.{first_unmet_by, holds, holds_tagged, unless}
 use Rattle.unit_model.specs.Core.{item_of, role_of, number_in, is_last_in}
 use Rattle.unit_model.specs.Effects.{after_step}
 use Rattle.unit_model.specs.declared.machine.Core.{Core}
@@ -69,28 +69,17 @@ may_abandon_known stream seat =
     let ended = cancelled_by seat stream || abandoned_by seat stream in
     unless (is_posted && not (ended || known (λ s. s.received_last) stream)) 11 1 0
 
--- the conditions of a step, given a core without its seats' lists and what is kept of each stream
-unfoldable pub conditions_known : Core → (ℕ → Option Stream) → Step → List (Option Unmet)
-conditions_known core at (Arm seat queue item stream) =
-    is_either core seat
-    ∷ may_fill core seat queue item
-    ∷ seat_holds core seat queue item
-    ∷ has_tag core queue item 0
-    ∷ fits_side core seat (item_of core queue item).run
-    ∷ run_has_owner core (1 + seat) (item_of core queue item).run
-    ∷ may_arm_known core (at stream) seat queue item stream
-    ∷ []
-conditions_known core at (Settle seat queue item stream) =
-    is_either core seat
-    ∷ may_use core queue item
-    ∷ has_tag core queue item stream
-    ∷ may_settle_known core (at stream) seat queue item stream
-    ∷ []
-conditions_known core at (Abandon seat stream) = is_engine core seat ∷ may_abandon_known (at stream) seat ∷ []
-conditions_known core at step = conditions_of core step
+-- the eleventh condition, of the steps that have it, given a core without its seats' lists and what is kept of each stream
+abbrev pub eleventh_known : Core → (ℕ → Option Stream) → Step → Option Unmet
+eleventh_known core at (Arm seat queue item stream) =
+    may_arm_known core (at stream) seat queue item stream
+eleventh_known core at (Settle seat queue item stream) =
+    may_settle_known core (at stream) seat queue item stream
+eleventh_known core at (Abandon seat stream) = may_abandon_known (at stream) seat
+eleventh_known core at step = None
 
 abbrev pub first_unmet_known : Core → (ℕ → Option Stream) → Step → Option Unmet
-first_unmet_known core at step = first_of (conditions_known core at step)
+first_unmet_known core at = first_unmet_by core (eleventh_known core at)
 
 -- ---- what each step makes of a stream's record
 
@@ -112,7 +101,11 @@ abbrev pub armed_stream : ℕ → Item → Stream → Stream
 armed_stream queue item stream =
     if queue == 0
     then record stream { posted = true }
-    else record stream { sent = number_in item.part + 1; last_sent = stream.last_sent || is_last_in item.part }
+    else record stream {
+      sent =
+          number_in item.part + 1;
+      last_sent = stream.last_sent || is_last_in item.part;
+    }
 
 -- a part counts as received where the stream's own engine received it
 abbrev pub settled_stream : Bool → ℕ → ℕ → Item → Stream → Stream
@@ -120,7 +113,10 @@ settled_stream is_engine seat queue item stream =
     if is_engine
     then (if queue == 0
     then record stream { cancelled = true }
-    else record stream { received_last = stream.received_last || (stream.engine == seat && is_last_in item.part) })
+    else record stream {
+      received_last =
+          stream.received_last || (stream.engine == seat && is_last_in item.part);
+    })
     else (if queue == 0
     then record stream { taken = true; takers = set stream.takers seat true }
     else record stream { closed = true })
@@ -130,14 +126,16 @@ abandoned_stream stream = record stream { abandoned = true }
 
 -- the record of a stream after a step, given the core and the records before it
 unfoldable pub stream_after : Core → (ℕ → Option Stream) → Step → ℕ → Option Stream
-stream_after core at (Draw seat stream) number = if number == stream then Some (drawn_stream seat) else at number
+stream_after core at (Draw seat stream) number =
+    if number == stream then Some (drawn_stream seat) else at number
 stream_after core at (Arm seat queue item stream) number =
     if number == stream then option_map (armed_stream queue (item_of core queue item)) (at stream) else at number
 stream_after core at (Settle seat queue item stream) number =
     if number == stream
     then option_map (settled_stream (role_of core seat == 0) seat queue (item_of core queue item)) (at stream)
     else at number
-stream_after core at (Abandon seat stream) number = if number == stream then option_map abandoned_stream (at stream) else at number
+stream_after core at (Abandon seat stream) number =
+    if number == stream then option_map abandoned_stream (at stream) else at number
 stream_after core at step number = at number
 
 -- ---- a core without its seats' lists

@@ -18,12 +18,15 @@ abbrev pub SaySteps : List Line → List Step → Type 0
 SaySteps [] [] = Unit {0}
 SaySteps [] (step ∷ steps) = ⊥
 SaySteps (line ∷ lines) [] = ⊥
-SaySteps (line ∷ lines) (step ∷ steps) = IsWhole line × (step_of line.text ≡ Some step) × SaySteps lines steps
+SaySteps (line ∷ lines) (step ∷ steps) =
+    IsWhole line × (step_of line.text ≡ Some step) × SaySteps lines steps
 
 -- the first line says this shape, which a fabric can have, and the others say these steps
 abbrev pub SayShape : List Line → Shape → List Step → Type 0
 SayShape [] shape steps = ⊥
-SayShape (line ∷ lines) shape steps = IsWhole line × (shape_of line.text ≡ Some shape) × (is_valid shape ≡ true) × SaySteps lines steps
+SayShape (line ∷ lines) shape steps =
+    IsWhole line × (shape_of line.text ≡ Some shape) × (is_valid shape ≡ true)
+    × SaySteps lines steps
 
 -- the lines say a shape, which is the plain one where no line says it, and steps
 abbrev pub Say : List Line → Shape → List Step → Type 0

@@ -1,10 +1,11 @@
 -- The verdict of a trace.
-use Rattle.std.specs.Prelude.{ℕ, ◌+◌, ◌*◌, ◌==◌, ◌&&◌, ◌||◌, not, nat_le, Bool, true, false, if◌then◌else◌, List, [], ◌∷◌, length, max, ◌^◌, ◌-◌, Option, Some, None, count_by}
+use Rattle.std.specs.Prelude.{ℕ, ◌+◌, ◌*◌, ◌==◌, ◌&&◌, ◌||◌, not, nat_le, Bool, true, false, if◌then◌else◌, List, [], ◌∷◌, length, max, Option, Some, None, count_by}
 use Rattle.std.specs.List.{list_any}
 use Rattle.trace_check.specs.Lines.{shape_of, step_of}
 use Rattle.trace_check.specs.declared.verdict.Tally.{Tally}
 use Rattle.trace_check.specs.declared.verdict.Verdict.{Verdict}
 use Rattle.trace_check.specs.declared.verdict.Verdict.TheVariants.{Broken, Illegal, Legal}
+use Rattle.unit_model.specs.Limits.{most_items, most_segments, most_seats, last_start, segment_chunks}
 use Rattle.unit_model.specs.Conditions.{first_unmet, has_stream}
 use Rattle.unit_model.specs.Effects.{after_step}
 use Rattle.unit_model.specs.Opening.{opened_core}
@@ -36,7 +37,9 @@ is_abandoned lists stream = has_stream stream lists.abandoned
 
 -- its last part was received, and it wasn't abandoned
 abbrev pub is_accepted : SeatLists → ℕ → Bool
-is_accepted lists stream = list_any (λ part. part.stream == stream && part.last) lists.received && not (is_abandoned lists stream)
+is_accepted lists stream =
+    list_any (λ part. part.stream == stream && part.last) lists.received
+    && not (is_abandoned lists stream)
 
 -- it was never posted
 abbrev pub is_refused : SeatLists → ℕ → Bool
@@ -50,7 +53,7 @@ is_left_open lists stream =
 abbrev pub tally_of : Core → Tally
 tally_of core = record {
   free = count_by is_free core.owners;
-  chunks = 640 * (core.shape.out_segments + core.shape.back_segments);
+  chunks = segment_chunks * (core.shape.out_segments + core.shape.back_segments);
   drawn = weigh (λ lists. length lists.drawn) core.seats;
   accepted = streams_that is_accepted core;
   cancelled = streams_that is_cancelled core;
@@ -60,7 +63,8 @@ tally_of core = record {
 }
 
 abbrev pub legal : ℕ → Tally → Verdict
-legal steps t = Legal steps t.free t.chunks t.drawn t.accepted t.cancelled t.abandoned t.refused t.left_open
+legal steps t =
+    Legal steps t.free t.chunks t.drawn t.accepted t.cancelled t.abandoned t.refused t.left_open
 
 -- ---- lines
 
@@ -78,13 +82,23 @@ before_lines byte (line ∷ lines) = (record line { text = byte ∷ line.text })
 abbrev pub lines_of : List ℕ → List Line
 lines_of [] = []
 lines_of (byte ∷ bytes) =
-    if byte == 10 then (record { text = []; is_ended = true }) ∷ lines_of bytes else before_lines byte (lines_of bytes)
+    if byte == 10
+    then (record { text = []; is_ended = true }) ∷ lines_of bytes
+    else before_lines byte (lines_of bytes)
 
 -- ---- the verdict
 
 -- 8 items and 8 back items, one segment a side, one engine, one worker, and places from 8 on
 abbrev pub plain_shape : Shape
-plain_shape = record { items = 8; back_items = 8; out_segments = 1; back_segments = 1; engines = 1; workers = 1; start = 8 }
+plain_shape = record {
+  items = 8;
+  back_items = 8;
+  out_segments = 1;
+  back_segments = 1;
+  engines = 1;
+  workers = 1;
+  start = 8;
+}
 
 abbrev pub is_from_1_to : ℕ → ℕ → Bool
 is_from_1_to most n = nat_le 1 n && nat_le n most
@@ -92,10 +106,10 @@ is_from_1_to most n = nat_le 1 n && nat_le n most
 -- a fabric can have this shape
 abbrev pub is_valid : Shape → Bool
 is_valid shape =
-    (is_from_1_to 16384 shape.items && is_from_1_to 16384 shape.back_items)
-    && ((is_from_1_to 8 shape.out_segments && is_from_1_to 8 shape.back_segments)
-    && ((is_from_1_to 4 shape.engines && is_from_1_to 4 shape.workers)
-    && (nat_le (max shape.items shape.back_items) shape.start && nat_le shape.start (2 ^ 62 - 16385))))
+    (is_from_1_to most_items shape.items && is_from_1_to most_items shape.back_items)
+    && ((is_from_1_to most_segments shape.out_segments && is_from_1_to most_segments shape.back_segments)
+    && ((is_from_1_to most_seats shape.engines && is_from_1_to most_seats shape.workers)
+    && (nat_le (max shape.items shape.back_items) shape.start && nat_le shape.start last_start)))
 
 -- where a check stands once some lines have passed: the core after their steps, how many steps and lines there were, and
 -- the byte where the next line begins
@@ -121,7 +135,8 @@ pass at text core steps = passes (record { core = core; steps = steps; lines = a
 -- a line that says a step, and the first of the step's conditions that isn't met
 abbrev pub on_unmet : Passed → List ℕ → Step → Option Unmet → Judged
 on_unmet at text step None = pass at text (after_step at.core step) (at.steps + 1)
-on_unmet at text step (Some unmet) = decides (Illegal (at.lines + 1) unmet.rule unmet.want unmet.found)
+on_unmet at text step (Some unmet) =
+    decides (Illegal (at.lines + 1) unmet.rule unmet.want unmet.found)
 
 abbrev pub on_step : Passed → List ℕ → Option Step → Judged
 on_step at text None = decides (Broken at.place)
@@ -135,7 +150,8 @@ on_shape at text (Some shape) =
 
 -- a line without its LF, of fewer than 256 bytes
 abbrev pub on_line : Passed → List ℕ → Judged
-on_line at text = if nat_le 256 (length text) then decides (Broken at.place) else on_shape at text (shape_of text)
+on_line at text =
+    if nat_le 256 (length text) then decides (Broken at.place) else on_shape at text (shape_of text)
 
 -- where a check stands: lines have passed and there is this much of the next one, or the verdict is decided
 pub data Standing : Type 0 where

@@ -52,7 +52,8 @@ impl Checker {
     /// Want of memory alone. The checker has then failed: every later call of this answers the same, and there is no verdict.
     pub fn feed(&mut self, alloc: Global, piece: &[u8]) -> Result<(), AllocError>
         requires { bytes_read self.old + length piece.now < 2 ^ 64 }
-        ensures fed { OnOk result ((bytes : List ℕ) → HasRead self.old bytes → HasRead self.new (bytes ++ piece.now)) }
+        ensures fed { OnOk result ((bytes : List ℕ) → HasRead self.old bytes
+            → HasRead self.new (bytes ++ piece.now)) }
         ensures count { OnOk result (bytes_read self.new ≡ bytes_read self.old + length piece.now) }
         ensures whole { OnOk result (has_failed self.new ≡ false) }
         ensures failed { OnErr result (has_failed self.new ≡ true) }

@@ -10,7 +10,7 @@ use crate::frame::Frame;
 use crate::lane::Lane;
 use std::alloc::{AllocError, Global};
 use std::collections::BTreeMap;
-use unit_model::{Entry, Item, Owner, Run, Shape, Sides};
+use unit_model::{Entry, Item, Owner, Run, Shape, Sides, chunk_number};
 
 fn forget(owners: &mut BTreeMap<u64, Owner>, number: u64)
     ensures here { owner_in owners.new number ≡ Free }
@@ -31,7 +31,7 @@ fn keep(owners: &mut BTreeMap<u64, Owner>, number: u64, owner: Owner) -> Result<
 
 impl Frame {
     /// Writes an item anew, where there is one. Fails for want of memory alone.
-    #[tactic(auto, using(crate::proofs::Changes::changed_here, crate::proofs::Changes::changed_past), unfolding(unit_model::specs::Effects::with_item))]
+    #[tactic(auto, using(unit_model::proofs::Lists::changed_here, unit_model::proofs::Lists::changed_past), unfolding(unit_model::specs::Effects::with_item))]
     pub(crate) fn set_item(&mut self, queue: u32, item: u32, new: Item) -> Result<(), AllocError>
         ensures { OnOk result (self.new ≡ with_item queue item new self.old) }
     {
@@ -42,7 +42,7 @@ impl Frame {
         queue.set_item(item, new)
     }
 
-    #[tactic(auto, using(crate::proofs::Changes::changed_here, crate::proofs::Changes::changed_past), unfolding(unit_model::specs::Effects::without_first_free))]
+    #[tactic(auto, using(unit_model::proofs::Lists::changed_here, unit_model::proofs::Lists::changed_past), unfolding(unit_model::specs::Effects::without_first_free))]
     pub(crate) fn drop_first_free(&mut self, queue: u32)
         ensures { self.new ≡ without_first_free queue self.old }
     {
@@ -52,7 +52,7 @@ impl Frame {
         }
     }
 
-    #[tactic(auto, using(crate::proofs::Changes::changed_here, crate::proofs::Changes::changed_past), unfolding(unit_model::specs::Effects::without_first_in_line))]
+    #[tactic(auto, using(unit_model::proofs::Lists::changed_here, unit_model::proofs::Lists::changed_past), unfolding(unit_model::specs::Effects::without_first_in_line))]
     pub(crate) fn drop_first_in_line(&mut self, queue: u32)
         ensures { self.new ≡ without_first_in_line queue self.old }
     {
@@ -62,7 +62,7 @@ impl Frame {
         }
     }
 
-    #[tactic(auto, using(crate::proofs::Changes::changed_here, crate::proofs::Changes::changed_past), unfolding(unit_model::specs::Effects::with_free))]
+    #[tactic(auto, using(unit_model::proofs::Lists::changed_here, unit_model::proofs::Lists::changed_past), unfolding(unit_model::specs::Effects::with_free))]
     pub(crate) fn append_free(&mut self, queue: u32, entry: Entry) -> Result<(), AllocError>
         requires { entry.place < 2 ^ 63 }
         ensures { OnOk result (self.new ≡ with_free queue entry self.old) }
@@ -74,7 +74,7 @@ impl Frame {
         queue.append_free(entry)
     }
 
-    #[tactic(auto, using(crate::proofs::Changes::changed_here, crate::proofs::Changes::changed_past), unfolding(unit_model::specs::Effects::with_in_line))]
+    #[tactic(auto, using(unit_model::proofs::Lists::changed_here, unit_model::proofs::Lists::changed_past), unfolding(unit_model::specs::Effects::with_in_line))]
     pub(crate) fn append_in_line(&mut self, queue: u32, entry: Entry) -> Result<(), AllocError>
         requires { entry.place < 2 ^ 63 }
         ensures { OnOk result (self.new ≡ with_in_line queue entry self.old) }
@@ -104,11 +104,11 @@ impl Frame {
     }
 
     /// Gives the chunks of a run an owner. Fails for want of memory alone.
-    #[tactic(auto, using(crate::proofs::Changes::set_all_more), unfolding(unit_model::specs::Effects::with_owner, unit_model::specs::Effects::with_run_owner))]
+    #[tactic(auto, using(unit_model::proofs::Lists::set_all_more), unfolding(unit_model::specs::Effects::with_owner, unit_model::specs::Effects::with_run_owner))]
     pub(crate) fn set_run_owner(&mut self, run: Run, owner: Owner) -> Result<(), AllocError>
         ensures { OnOk result (self.new ≡ with_run_owner run owner self.old) }
     {
-        let first = 640 * run.segment as u64 + run.chunk as u64;
+        let first = chunk_number(run.segment as u32, run.chunk as u32);
         for i in 0..run.chunk_count() {
             self.set_owner(first + i as u64, owner)?;
         }
@@ -119,7 +119,7 @@ impl Frame {
     pub(crate) fn set_opened(&mut self, seat: u32, count: u32)
         ensures { self.new ≡ with_opened seat count self.old }
     {
-        if self.role_of(seat) == 0 {
+        if self.role_of(seat).is_engine() {
             self.opened = Sides {
                 out: count,
                 back: self.opened.back,
@@ -153,10 +153,11 @@ impl Frame {
     }
 }
 
-#[tactic(auto, using(crate::proofs::Entries::one_more_of))]
+#[tactic(auto, using(unit_model::proofs::FirstEntries::one_more_of))]
 fn fresh_queues(alloc: Global, shape: &Shape) -> Result<Vec<Lane>, AllocError>
     requires { IsValid shape.now }
-    ensures { IfOk result (λ queues. queues.items ≡ fresh_queue shape.now.start shape.now.items ∷ replicate shape.now.engines (fresh_queue shape.now.start shape.now.back_items)) }
+    ensures { IfOk result (λ queues. queues.items ≡ fresh_queue shape.now.start shape.now.items
+        ∷ replicate shape.now.engines (fresh_queue shape.now.start shape.now.back_items)) }
 {
     let mut queues = Vec::new(alloc);
     push(&mut queues, Lane::fresh(alloc, shape.start, shape.items)?)?;

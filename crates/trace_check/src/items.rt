@@ -7,23 +7,7 @@ ghost use Rattle.unit_model.specs.Weights.{one_if};
 use std::alloc::{AllocError, Global};
 use std::collections::BTreeMap;
 use std::marker::Model;
-use unit_model::{Item, Run, Whereabouts};
-
-/// Behind every item's number.
-pub(crate) const PAST_ITEMS: u64 = 1 << 32;
-
-/// An item that was never used.
-pub(crate) const BLANK: Item = Item {
-    tag: 0,
-    stream: 0,
-    run: Run {
-        segment: 0,
-        chunk: 0,
-        size: 0,
-    },
-    part: 0,
-    whereabouts: Whereabouts::InFreeList,
-};
+use unit_model::{BLANK, Item};
 
 /// Where an item is, as a number, and its tag.
 #[derive(Clone, Copy, Debug, PartialEq, Eq, PartialOrd, Ord, Drop)]
@@ -53,17 +37,6 @@ impl Model for Items {
     ghost invariant = { λ x. Counts x.hands x.values.items };
 }
 
-/// Where an item is, as a number.
-pub(crate) fn whereabouts_code(whereabouts: Whereabouts) -> u64
-    ensures { result ≡ whereabouts_code whereabouts }
-{
-    match whereabouts {
-        Whereabouts::InFreeList => 0,
-        Whereabouts::InLine => PAST_ITEMS,
-        Whereabouts::WithSeat(seat) => 1 + seat as u64,
-    }
-}
-
 impl Hand {
     ghost use Rattle.trace_check.specs.Hands.{count_at, hand_of, same_hand};
 
@@ -71,7 +44,7 @@ impl Hand {
         ensures { result ≡ hand_of item.now }
     {
         Hand {
-            code: whereabouts_code(item.whereabouts),
+            code: item.whereabouts.code(),
             tag: item.tag,
         }
     }
@@ -88,7 +61,8 @@ impl Hand {
     // One item more.
     fn add(self, hands: &mut BTreeMap<Hand, u64>) -> Result<(), AllocError>
         requires { count_at hands.old self + 1 < 2 ^ 64 }
-        ensures ok { OnOk result ((hand : Hand) → count_at hands.new hand ≡ count_at hands.old hand + one_if (same_hand hand self)) }
+        ensures ok { OnOk result ((hand : Hand) → count_at hands.new hand
+            ≡ count_at hands.old hand + one_if (same_hand hand self)) }
         ensures err { OnErr result ((hand : Hand) → count_at hands.new hand ≡ count_at hands.old hand) }
     {
         let count = self.count(hands);
@@ -100,7 +74,8 @@ impl Hand {
 
     // One item fewer, where there is one.
     fn remove(self, hands: &mut BTreeMap<Hand, u64>)
-        ensures { (hand : Hand) → count_at hands.new hand ≡ count_at hands.old hand - one_if (same_hand hand self) }
+        ensures { (hand : Hand) → count_at hands.new hand
+            ≡ count_at hands.old hand - one_if (same_hand hand self) }
     {
         let count = self.count(hands);
         if count > 1 {
@@ -114,7 +89,8 @@ impl Hand {
     fn put(self, hands: &mut BTreeMap<Hand, u64>, count: u64)
         requires { 0 < count_at hands.old self }
         ensures here { count_at hands.new self ≡ count }
-        ensures apart { (hand : Hand) → same_hand hand self ≡ false → count_at hands.new hand ≡ count_at hands.old hand }
+        ensures apart { (hand : Hand) → same_hand hand self ≡ false
+            → count_at hands.new hand ≡ count_at hands.old hand }
     {
         match hands.insert(self, count) {
             Ok(_) => {}
@@ -125,7 +101,9 @@ impl Hand {
     // One item goes from one hand to another.
     fn give(self, hands: &mut BTreeMap<Hand, u64>, to: Hand) -> Result<(), AllocError>
         requires { (to.code ≢ 0) → count_at hands.old to + 1 < 2 ^ 64 }
-        ensures ok { OnOk result ((hand : Hand) → hand.code ≢ 0 → count_at hands.new hand ≡ (count_at hands.old hand + one_if (same_hand hand to)) - one_if (same_hand hand self)) }
+        ensures ok { OnOk result ((hand : Hand) → hand.code ≢ 0
+            → count_at hands.new hand
+            ≡ (count_at hands.old hand + one_if (same_hand hand to)) - one_if (same_hand hand self)) }
         ensures err { OnErr result ((hand : Hand) → count_at hands.new hand ≡ count_at hands.old hand) }
     {
         if to.code != 0 {
@@ -175,7 +153,8 @@ impl Items {
     /// Whether an item of this tag is where the code says, which isn't that of free items.
     pub(crate) fn some_at(&self, code: u64, tag: u64) -> bool
         requires { 0 < code }
-        ensures { result ≡ list_any (λ item. whereabouts_code item.whereabouts == code && item.tag == tag) self.now }
+        ensures { result ≡ list_any
+            (λ item. whereabouts_code item.whereabouts == code && item.tag == tag) self.now }
     {
         let hand = Hand { code, tag };
         hand.count(&self.hands) > 0

@@ -4,11 +4,11 @@ ghost use Rattle.std.specs.Prelude.{◌≡◌, ◌<◌, ◌+◌, ◌^◌, ◌∷
 ghost use Rattle.unit_model.specs.Core.{blank, first_item, first_place, whereabouts_code};
 ghost use Rattle.unit_model.specs.Opening.{fresh_queue, first_entries};
 
-use crate::items::{Items, PAST_ITEMS};
+use crate::items::Items;
 use std::alloc::{AllocError, Global};
 use std::collections::VecDeque;
 use std::marker::Model;
-use unit_model::{Entry, Item};
+use unit_model::{Entry, Item, PAST_ITEMS};
 
 /// A queue. Contracts see its lists.
 #[derive(Debug, Drop)]
@@ -25,7 +25,13 @@ impl Model for Lane {
 
     ghost Value = { Queue };
 
-    ghost view = { λ l. record { free = l.free.items; next_free = l.next_free; line = l.line.items; next_line = l.next_line; items = l.items } };
+    ghost view = { λ l. record {
+      free = l.free.items;
+      next_free = l.next_free;
+      line = l.line.items;
+      next_line = l.next_line;
+      items = l.items;
+    } };
 }
 
 fn first_place(entries: &VecDeque<Entry>, next: u64) -> u64
@@ -107,7 +113,8 @@ impl Lane {
     /// Whether an item of this tag is where the code says, which isn't that of free items.
     pub(crate) fn has_held(&self, code: u64, tag: u64) -> bool
         requires { 0 < code }
-        ensures { result ≡ list_any (λ item. whereabouts_code item.whereabouts == code && item.tag == tag) self.now.items }
+        ensures { result ≡ list_any
+            (λ item. whereabouts_code item.whereabouts == code && item.tag == tag) self.now.items }
     {
         self.items.some_at(code, tag)
     }
@@ -134,7 +141,10 @@ impl Lane {
     /// Fails for want of memory alone.
     pub(crate) fn append_free(&mut self, entry: Entry) -> Result<(), AllocError>
         requires { entry.place < 2 ^ 63 }
-        ensures { OnOk result (self.new ≡ record self.old { free = self.old.free ++ entry ∷ []; next_free = entry.place + 1 }) }
+        ensures { OnOk result (self.new ≡ record self.old {
+          free = self.old.free ++ entry ∷ [];
+          next_free = entry.place + 1;
+        }) }
     {
         push(&mut self.free, entry)?;
         self.next_free = entry.place + 1;
@@ -144,7 +154,10 @@ impl Lane {
     /// Fails for want of memory alone.
     pub(crate) fn append_in_line(&mut self, entry: Entry) -> Result<(), AllocError>
         requires { entry.place < 2 ^ 63 }
-        ensures { OnOk result (self.new ≡ record self.old { line = self.old.line ++ entry ∷ []; next_line = entry.place + 1 }) }
+        ensures { OnOk result (self.new ≡ record self.old {
+          line = self.old.line ++ entry ∷ [];
+          next_line = entry.place + 1;
+        }) }
     {
         push(&mut self.line, entry)?;
         self.next_line = entry.place + 1;
@@ -166,7 +179,7 @@ impl Lane {
     }
 }
 
-#[tactic(auto, using(crate::proofs::Entries::one_entry_more))]
+#[tactic(auto, using(unit_model::proofs::FirstEntries::one_entry_more))]
 fn first_entries(alloc: Global, start: u64, items: u32) -> Result<VecDeque<Entry>, AllocError>
     requires { start < 2 ^ 62 }
     ensures { IfOk result (λ entries. entries.items ≡ first_entries start items) }

@@ -3,12 +3,10 @@ ghost use Rattle.std.specs.BTreeMap.{get};
 ghost use Rattle.std.specs.Ordering.{nat_cmp};
 ghost use Rattle.std.specs.Prelude.{◌≡◌, ◌≢◌, ◌==◌, if◌then◌else◌, ◌<◌, ◌^◌, ◌-◌, ℕ, IfOk, OnOk, Option, Some, None};
 ghost use Rattle.trace_check.specs.Shows.{Shows};
-ghost use Rattle.trace_check.specs.Streams.{conditions_known, first_unmet_known, may_abandon_known, may_arm_known, may_post_known, may_send_known, may_settle_known, may_win_known, stream_after};
-ghost use Rattle.unit_model.specs.Conditions.{conditions_of, first_unmet};
+ghost use Rattle.trace_check.specs.Streams.{eleventh_known, may_abandon_known, may_arm_known, may_post_known, may_send_known, may_settle_known, may_win_known};
 ghost use Rattle.unit_model.specs.Opening.{opened_core};
 ghost use Rattle.unit_model.specs.Shapes.{IsValid};
 
-use crate::conditions::{first_of, unless};
 use crate::frame::Frame;
 use crate::streams::{
     Stream, abandoned_by, cancelled_by, drawn_by, is_closed, is_last_sent, is_received, is_taken,
@@ -16,7 +14,7 @@ use crate::streams::{
 };
 use std::alloc::{AllocError, Global};
 use std::collections::BTreeMap;
-use unit_model::{Shape, Step, Unmet};
+use unit_model::{Item, Looks, Shape, Sides, Unmet, unless};
 
 /// A core in which each stream has a record, in place of the lists of what each seat has done.
 #[derive(Debug, Drop)]
@@ -70,7 +68,7 @@ impl Machine {
         unless(asked && unfinished && is_next_part && !is_waiting, 11, 1, 0)
     }
 
-    fn may_arm(&self, seat: u32, queue: u32, item: u32, stream: u64) -> Option<Unmet>
+    fn arm_unmet(&self, seat: u32, queue: u32, item: u32, stream: u64) -> Option<Unmet>
         ensures { result ≡ may_arm_known self.now.frame (get nat_cmp self.now.streams stream) seat queue item stream }
     {
         if queue == 0 {
@@ -83,7 +81,7 @@ impl Machine {
     fn may_win(&self, seat: u32, queue: u32, item: u32, stream: u64) -> bool
         ensures { result ≡ may_win_known self.now.frame (get nat_cmp self.now.streams stream) seat queue item }
     {
-        let is_engine = self.frame.role_of(seat) == 0;
+        let is_engine = self.frame.role_of(seat).is_engine();
         match (queue, is_engine) {
             (0, true) => posted_by(seat, &self.stream(stream)),
             (0, false) => self.frame.holds(seat, queue, item),
@@ -92,14 +90,14 @@ impl Machine {
         }
     }
 
-    fn may_settle(&self, seat: u32, queue: u32, item: u32, stream: u64) -> Option<Unmet>
+    fn settle_unmet(&self, seat: u32, queue: u32, item: u32, stream: u64) -> Option<Unmet>
         ensures { result ≡ may_settle_known self.now.frame (get nat_cmp self.now.streams stream) seat queue item stream }
     {
         let may_win = self.may_win(seat, queue, item, stream);
         unless(stream != 0 && may_win, 11, 1, 0)
     }
 
-    fn may_abandon(&self, seat: u32, stream: u64) -> Option<Unmet>
+    fn abandon_unmet(&self, seat: u32, stream: u64) -> Option<Unmet>
         ensures { result ≡ may_abandon_known (get nat_cmp self.now.streams stream) seat }
     {
         let known = self.stream(stream);
@@ -109,141 +107,73 @@ impl Machine {
     }
 }
 
-// The conditions of each step, in their order.
-impl Machine {
-    /// The first condition of the step that isn't met.
-    #[tactic(auto, unfolding(crate::specs::Streams::conditions_known, unit_model::specs::Conditions::conditions_of))]
-    pub(crate) fn first_unmet(&self, step: &Step) -> Option<Unmet>
-        ensures { result ≡ first_unmet_known self.now.frame (get nat_cmp self.now.streams) step.now }
-    {
-        let frame = &self.frame;
-        match *step {
-            Step::Draw { seat, stream } => first_of(&[
-                frame.is_engine(seat),
-                frame.is_next_stream(stream),
-            ]),
-            Step::Claim {
-                seat,
-                segment,
-                chunk,
-            } => frame.first_of_claim(seat, segment, chunk),
-            Step::Release {
-                seat,
-                segment,
-                chunk,
-            } => frame.first_of_release(seat, segment, chunk),
-            Step::Open { seat, count } => first_of(&[
-                frame.is_either(seat),
-                frame.may_open(seat, count),
-            ]),
-            Step::GetItem {
-                seat,
-                queue,
-                item,
-                place,
-            } => first_of(&[
-                frame.is_either(seat),
-                frame.may_fill(seat, queue, item),
-                frame.is_first_free_place(queue, place),
-                frame.is_first_free_item(queue, item),
-            ]),
-            Step::SetRun {
-                seat,
-                queue,
-                item,
-                run,
-            } => first_of(&[
-                frame.is_either(seat),
-                frame.may_fill(seat, queue, item),
-                frame.seat_holds(seat, queue, item),
-                frame.has_tag(queue, item, 0),
-                frame.fits_side(seat, run),
-                frame.run_has_owner(1 + seat as u64, run),
-            ]),
-            Step::SetPart {
-                seat,
-                queue,
-                item,
-                ..
-            } => first_of(&[
-                frame.is_either(seat),
-                frame.may_fill(seat, queue, item),
-                frame.seat_holds(seat, queue, item),
-                frame.has_tag(queue, item, 0),
-            ]),
-            Step::Arm {
-                seat,
-                queue,
-                item,
-                stream,
-            } => self.first_of_arm(seat, queue, item, stream),
-            Step::Push {
-                seat,
-                queue,
-                item,
-                place,
-            } => first_of(&[
-                frame.is_either(seat),
-                frame.may_fill(seat, queue, item),
-                frame.seat_holds(seat, queue, item),
-                frame.is_tagged(queue, item),
-                frame.is_next_line_place(queue, place),
-            ]),
-            Step::Pop {
-                seat,
-                queue,
-                item,
-                place,
-            } => first_of(&[
-                frame.may_pop(seat, queue),
-                frame.may_empty(seat, queue, item),
-                frame.is_first_line_place(queue, place),
-                frame.is_first_line_item(queue, item),
-            ]),
-            Step::Settle {
-                seat,
-                queue,
-                item,
-                stream,
-            } => first_of(&[
-                frame.is_either(seat),
-                frame.may_use(queue, item),
-                frame.has_tag(queue, item, stream),
-                self.may_settle(seat, queue, item, stream),
-            ]),
-            Step::GiveItem {
-                seat,
-                queue,
-                item,
-                place,
-            } => first_of(&[
-                frame.is_either(seat),
-                frame.may_use(queue, item),
-                frame.seat_holds(seat, queue, item),
-                frame.has_tag(queue, item, 0),
-                frame.is_next_free_place(queue, place),
-            ]),
-            Step::Abandon { seat, stream } => first_of(&[
-                frame.is_engine(seat),
-                self.may_abandon(seat, stream),
-            ]),
-        }
+// What the conditions of steps ask.
+impl Looks for Machine {
+    ghost use Rattle.std.specs.BTreeMap.{get};
+    ghost use Rattle.std.specs.Ordering.{nat_cmp};
+    ghost use Rattle.trace_check.specs.Streams.{eleventh_known};
+
+    ghost core = { λ m. m.frame };
+
+    ghost eleventh = { λ m. eleventh_known m.frame (get nat_cmp m.streams) };
+
+    fn shape(&self) -> Shape {
+        self.frame.shape()
     }
 
-    #[tactic(auto, unfolding(crate::specs::Streams::conditions_known))]
-    fn first_of_arm(&self, seat: u32, queue: u32, item: u32, stream: u64) -> Option<Unmet>
-        ensures { result ≡ first_unmet_known self.now.frame (get nat_cmp self.now.streams) (Step.Arm seat queue item stream) }
-    {
-        let frame = &self.frame;
-        let run = frame.item_of(queue, item).run;
-        first_of(&[
-            frame.is_either(seat),
-            frame.may_fill(seat, queue, item),
-            frame.seat_holds(seat, queue, item),
-            frame.has_tag(queue, item, 0),
-            frame.fits_side(seat, run),
-            frame.run_has_owner(1 + seat as u64, run),
-            self.may_arm(seat, queue, item, stream),
-        ])
+    fn next_stream(&self) -> u64 {
+        self.frame.next_stream()
+    }
+
+    fn opened(&self) -> Sides {
+        self.frame.opened()
+    }
+
+    fn owner_code_at(&self, number: u64) -> u64 {
+        self.frame.owner_code_at(number)
+    }
+
+    fn is_there(&self, queue: u32, item: u32) -> bool {
+        self.frame.is_there(queue, item)
+    }
+
+    fn item_of(&self, queue: u32, item: u32) -> Item {
+        self.frame.item_of(queue, item)
+    }
+
+    fn free_place(&self, queue: u32) -> u64 {
+        self.frame.free_place(queue)
+    }
+
+    fn line_place(&self, queue: u32) -> u64 {
+        self.frame.line_place(queue)
+    }
+
+    fn next_free(&self, queue: u32) -> u64 {
+        self.frame.next_free(queue)
+    }
+
+    fn next_line(&self, queue: u32) -> u64 {
+        self.frame.next_line(queue)
+    }
+
+    fn free_item(&self, queue: u32) -> u64 {
+        self.frame.free_item(queue)
+    }
+
+    fn line_item(&self, queue: u32) -> u64 {
+        self.frame.line_item(queue)
+    }
+
+    fn may_arm(&self, seat: u32, queue: u32, item: u32, stream: u64) -> Option<Unmet> {
+        self.arm_unmet(seat, queue, item, stream)
+    }
+
+    fn may_settle(&self, seat: u32, queue: u32, item: u32, stream: u64) -> Option<Unmet> {
+        self.settle_unmet(seat, queue, item, stream)
+    }
+
+    fn may_abandon(&self, seat: u32, stream: u64) -> Option<Unmet> {
+        self.abandon_unmet(seat, stream)
     }
 }

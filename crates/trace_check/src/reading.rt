@@ -71,7 +71,8 @@ impl Reading {
         requires steps { self.old.steps + 1 < 2 ^ 64 }
         requires lines { self.old.lines + 1 < 2 ^ 64 }
         requires place { self.old.place + (length self.old.text.items + 1) < 2 ^ 64 }
-        ensures judges { IfOk result (λ verdict. (at : Passed) (text : List ℕ) → Follows at text self.old → Judges (on_step at text (Some step.now)) verdict self.new) }
+        ensures judges { IfOk result (λ verdict. (at : Passed) (text : List ℕ) → Follows at text self.old
+            → Judges (on_step at text (Some step.now)) verdict self.new) }
         ensures counted { CountsOn self.old self.new }
     {
         match self.machine.step(step)? {
@@ -92,7 +93,8 @@ impl Reading {
     fn take_shape(&mut self, alloc: Global, shape: &Shape) -> Result<Option<Verdict>, AllocError>
         requires lines { self.old.lines + 1 < 2 ^ 64 }
         requires place { self.old.place + (length self.old.text.items + 1) < 2 ^ 64 }
-        ensures judges { IfOk result (λ verdict. (at : Passed) (text : List ℕ) → Follows at text self.old → Judges (on_shape at text (Some shape.now)) verdict self.new) }
+        ensures judges { IfOk result (λ verdict. (at : Passed) (text : List ℕ) → Follows at text self.old
+            → Judges (on_shape at text (Some shape.now)) verdict self.new) }
         ensures counted { CountsOn self.old self.new }
     {
         if self.lines != 0 || !is_valid(shape) {
@@ -108,7 +110,8 @@ impl Reading {
         requires steps { self.old.steps + 1 < 2 ^ 64 }
         requires lines { self.old.lines + 1 < 2 ^ 64 }
         requires place { self.old.place + (length self.old.text.items + 1) < 2 ^ 64 }
-        ensures judges { IfOk result (λ verdict. (at : Passed) (text : List ℕ) → Follows at text self.old → Judges (on_line at text) verdict self.new) }
+        ensures judges { IfOk result (λ verdict. (at : Passed) (text : List ℕ) → Follows at text self.old
+            → Judges (on_line at text) verdict self.new) }
         ensures counted { CountsOn self.old self.new }
     {
         if self.text.len() >= LONG {
@@ -128,7 +131,8 @@ impl Reading {
         requires steps { self.old.steps + 1 < 2 ^ 64 }
         requires lines { self.old.lines + 1 < 2 ^ 64 }
         requires place { self.old.place + (length self.old.text.items + 1) < 2 ^ 64 }
-        ensures stands { IfOk result (λ verdict. (at : Passed) (text : List ℕ) → Follows at text self.old → Stands (after_byte (going at text) byte) verdict self.new) }
+        ensures stands { IfOk result (λ verdict. (at : Passed) (text : List ℕ) → Follows at text self.old
+            → Stands (after_byte (going at text) byte) verdict self.new) }
         ensures counted { CountsOn self.old self.new }
     {
         if byte == b'\n' {
@@ -142,7 +146,8 @@ impl Reading {
 
     // A line that is too long, though it hasn't ended.
     fn too_long(&self) -> Option<Verdict>
-        ensures { (at : Passed) (text : List ℕ) → Follows at text self.now → Stands (on_rest at text) result self.now }
+        ensures { (at : Passed) (text : List ℕ) → Follows at text self.now
+            → Stands (on_rest at text) result self.now }
     {
         if self.text.len() >= LONG {
             Some(Verdict::Broken(self.place))
@@ -158,7 +163,8 @@ impl Reading {
         piece: &[u8],
     ) -> Result<Option<Verdict>, AllocError>
         requires counted { (bytes : ℕ) × IsCounted self.old bytes × (bytes + length piece.now < 2 ^ 64) }
-        ensures stands { IfOk result (λ verdict. (at : Passed) (text : List ℕ) → Follows at text self.old → Stands (after_bytes (going at text) piece.now) verdict self.new) }
+        ensures stands { IfOk result (λ verdict. (at : Passed) (text : List ℕ) → Follows at text self.old
+            → Stands (after_bytes (going at text) piece.now) verdict self.new) }
         ensures counted { (bytes : ℕ) → IsCounted self.old bytes → IsCounted self.new (bytes + length piece.now) }
     {
         for byte in piece {
@@ -174,7 +180,8 @@ impl Reading {
 impl Reading {
     /// The verdict where no more bytes come. It takes no memory.
     pub(crate) fn verdict_at_end(&self) -> Verdict
-        ensures { (at : Passed) (text : List ℕ) → Follows at text self.now → result ≡ verdict_at (going at text) }
+        ensures { (at : Passed) (text : List ℕ) → Follows at text self.now
+            → result ≡ verdict_at (going at text) }
     {
         if !self.text.is_empty() {
             return Verdict::Broken(self.place);
@@ -203,7 +210,8 @@ impl Reading {
         piece: &[u8],
     ) -> Result<Option<Verdict>, AllocError>
         requires counted { (bytes : ℕ) × IsCounted self.old bytes × (bytes + length piece.now < 2 ^ 64) }
-        ensures stands { IfOk result (λ after. (bytes : List ℕ) → Stands (standing_of bytes) verdict self.old → Stands (standing_of (bytes ++ piece.now)) after self.new) }
+        ensures stands { IfOk result (λ after. (bytes : List ℕ) → Stands (standing_of bytes) verdict self.old
+            → Stands (standing_of (bytes ++ piece.now)) after self.new) }
         ensures counted { (bytes : ℕ) → IsCounted self.old bytes → IsCounted self.new (bytes + length piece.now) }
     {
         if verdict.is_some() {

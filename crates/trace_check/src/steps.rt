@@ -9,17 +9,18 @@ ghost use Rattle.unit_model.specs.Core.{item_of};
 ghost use Rattle.unit_model.specs.Effects.{with_free, with_in_line, with_item, with_opened, without_first_free, without_first_in_line, after_step};
 ghost use Rattle.unit_model.specs.declared.machine.Core.{Core};
 
-use crate::frame::{Frame, chunk_number};
+use crate::frame::Frame;
 use crate::machine::Machine;
 use crate::streams::Stream;
 use std::alloc::AllocError;
 use std::collections::BTreeMap;
-use unit_model::{Entry, Item, Owner, Step, Unmet, Whereabouts};
+use unit_model::{Entry, Item, Owner, Step, Unmet, Whereabouts, chunk_number, first_unmet};
 
 // What the steps do to a frame.
 impl Frame {
     pub(crate) fn get_item(&mut self, seat: u32, queue: u32, item: u32) -> Result<(), AllocError>
-        ensures { OnOk result (self.new ≡ with_item queue item (record (item_of self.old queue item) { whereabouts = Whereabouts.WithSeat seat }) (without_first_free queue self.old)) }
+        ensures { OnOk result (self.new ≡ with_item queue item
+            (record (item_of self.old queue item) { whereabouts = Whereabouts.WithSeat seat }) (without_first_free queue self.old)) }
     {
         let old = self.item_of(queue, item);
         self.drop_first_free(queue);
@@ -31,7 +32,8 @@ impl Frame {
     }
 
     pub(crate) fn pop(&mut self, seat: u32, queue: u32, item: u32) -> Result<(), AllocError>
-        ensures { OnOk result (self.new ≡ with_item queue item (record (item_of self.old queue item) { whereabouts = Whereabouts.WithSeat seat }) (without_first_in_line queue self.old)) }
+        ensures { OnOk result (self.new ≡ with_item queue item
+            (record (item_of self.old queue item) { whereabouts = Whereabouts.WithSeat seat }) (without_first_in_line queue self.old)) }
     {
         let old = self.item_of(queue, item);
         self.drop_first_in_line(queue);
@@ -44,7 +46,9 @@ impl Frame {
 
     pub(crate) fn push(&mut self, queue: u32, item: u32, place: u64) -> Result<(), AllocError>
         requires { place < 2 ^ 63 }
-        ensures { OnOk result (self.new ≡ with_item queue item (record (item_of self.old queue item) { whereabouts = Whereabouts.InLine }) (with_in_line queue (record { place = place; item = item }) self.old)) }
+        ensures { OnOk result (self.new ≡ with_item queue item
+            (record (item_of self.old queue item) { whereabouts = Whereabouts.InLine })
+            (with_in_line queue (record { place = place; item = item }) self.old)) }
     {
         let old = self.item_of(queue, item);
         self.append_in_line(queue, Entry { place, item })?;
@@ -57,7 +61,9 @@ impl Frame {
 
     pub(crate) fn give_item(&mut self, queue: u32, item: u32, place: u64) -> Result<(), AllocError>
         requires { place < 2 ^ 63 }
-        ensures { OnOk result (self.new ≡ with_item queue item (record (item_of self.old queue item) { whereabouts = Whereabouts.InFreeList }) (with_free queue (record { place = place; item = item }) self.old)) }
+        ensures { OnOk result (self.new ≡ with_item queue item
+            (record (item_of self.old queue item) { whereabouts = Whereabouts.InFreeList })
+            (with_free queue (record { place = place; item = item }) self.old)) }
     {
         let old = self.item_of(queue, item);
         self.append_free(queue, Entry { place, item })?;
@@ -88,7 +94,8 @@ impl Frame {
 
 // Puts the record of a stream into the map. Fails for want of memory alone.
 fn put(streams: &mut BTreeMap<u64, Stream>, number: u64, stream: Stream) -> Result<(), AllocError>
-    ensures { OnOk result ((n : ℕ) → get nat_cmp streams.new n ≡ (if n == number then Some stream else get nat_cmp streams.old n)) }
+    ensures { OnOk result ((n : ℕ) → get nat_cmp streams.new n ≡
+        (if n == number then Some stream else get nat_cmp streams.old n)) }
 {
     match streams.insert(number, stream) {
         Ok(_) => Ok(()),
@@ -103,7 +110,8 @@ fn put_changed(
     stream: Option<Stream>,
 ) -> Result<(), AllocError>
     requires { stream ≡ None → get nat_cmp streams.old number ≡ None }
-    ensures { OnOk result ((n : ℕ) → get nat_cmp streams.new n ≡ (if n == number then stream else get nat_cmp streams.old n)) }
+    ensures { OnOk result ((n : ℕ) → get nat_cmp streams.new n ≡
+        (if n == number then stream else get nat_cmp streams.old n)) }
 {
     match stream {
         Some(stream) => put(streams, number, stream),
@@ -152,7 +160,8 @@ impl Machine {
     fn draw(&mut self, seat: u32, stream: u64) -> Result<(), AllocError>
         requires { stream < 2 ^ 62 }
         ensures frame { OnOk result (self.new.frame ≡ frame_after self.old.frame (Step.Draw seat stream)) }
-        ensures streams { OnOk result ((n : ℕ) → get nat_cmp self.new.streams n ≡ stream_after self.old.frame (get nat_cmp self.old.streams) (Step.Draw seat stream) n) }
+        ensures streams { OnOk result ((n : ℕ) → get nat_cmp self.new.streams n
+            ≡ stream_after self.old.frame (get nat_cmp self.old.streams) (Step.Draw seat stream) n) }
     {
         put(&mut self.streams, stream, Stream::drawn(seat))?;
         self.frame.set_next(stream + 1);
@@ -161,8 +170,10 @@ impl Machine {
 
     #[tactic(auto, unfolding(unit_model::specs::Effects::after_step, unit_model::specs::Effects::with_note, unit_model::specs::Effects::with_item, unit_model::specs::Effects::with_run_owner, crate::specs::Streams::stream_after))]
     fn arm(&mut self, seat: u32, queue: u32, item: u32, stream: u64) -> Result<(), AllocError>
-        ensures frame { OnOk result (self.new.frame ≡ frame_after self.old.frame (Step.Arm seat queue item stream)) }
-        ensures streams { OnOk result ((n : ℕ) → get nat_cmp self.new.streams n ≡ stream_after self.old.frame (get nat_cmp self.old.streams) (Step.Arm seat queue item stream) n) }
+        ensures frame { OnOk result (self.new.frame
+            ≡ frame_after self.old.frame (Step.Arm seat queue item stream)) }
+        ensures streams { OnOk result ((n : ℕ) → get nat_cmp self.new.streams n
+            ≡ stream_after self.old.frame (get nat_cmp self.old.streams) (Step.Arm seat queue item stream) n) }
     {
         let old = self.frame.item_of(queue, item);
         let known = armed(self.stream(stream), queue, &old);
@@ -180,11 +191,13 @@ impl Machine {
 
     #[tactic(auto, unfolding(unit_model::specs::Effects::after_step, unit_model::specs::Effects::with_note, unit_model::specs::Effects::with_item, unit_model::specs::Effects::with_run_owner, crate::specs::Streams::stream_after))]
     fn settle(&mut self, seat: u32, queue: u32, item: u32, stream: u64) -> Result<(), AllocError>
-        ensures frame { OnOk result (self.new.frame ≡ frame_after self.old.frame (Step.Settle seat queue item stream)) }
-        ensures streams { OnOk result ((n : ℕ) → get nat_cmp self.new.streams n ≡ stream_after self.old.frame (get nat_cmp self.old.streams) (Step.Settle seat queue item stream) n) }
+        ensures frame { OnOk result (self.new.frame
+            ≡ frame_after self.old.frame (Step.Settle seat queue item stream)) }
+        ensures streams { OnOk result ((n : ℕ) → get nat_cmp self.new.streams n
+            ≡ stream_after self.old.frame (get nat_cmp self.old.streams) (Step.Settle seat queue item stream) n) }
     {
         let old = self.frame.item_of(queue, item);
-        let is_engine = self.frame.role_of(seat) == 0;
+        let is_engine = self.frame.role_of(seat).is_engine();
         let known = settled(self.stream(stream), is_engine, seat, queue, &old);
         put_changed(&mut self.streams, stream, known)?;
         self.frame.set_item(queue, item, Item { tag: 0, ..old })?;
@@ -195,7 +208,8 @@ impl Machine {
     #[tactic(auto, unfolding(unit_model::specs::Effects::after_step, unit_model::specs::Effects::with_note, crate::specs::Streams::stream_after))]
     fn abandon(&mut self, seat: u32, stream: u64) -> Result<(), AllocError>
         ensures frame { OnOk result (self.new.frame ≡ frame_after self.old.frame (Step.Abandon seat stream)) }
-        ensures streams { OnOk result ((n : ℕ) → get nat_cmp self.new.streams n ≡ stream_after self.old.frame (get nat_cmp self.old.streams) (Step.Abandon seat stream) n) }
+        ensures streams { OnOk result ((n : ℕ) → get nat_cmp self.new.streams n
+            ≡ stream_after self.old.frame (get nat_cmp self.old.streams) (Step.Abandon seat stream) n) }
     {
         let known = given_up(self.stream(stream));
         put_changed(&mut self.streams, stream, known)?;
@@ -209,7 +223,8 @@ impl Machine {
     fn do_step(&mut self, step: &Step) -> Result<(), AllocError>
         requires { first_unmet_known self.old.frame (get nat_cmp self.old.streams) step.now ≡ None }
         ensures frame { OnOk result (self.new.frame ≡ frame_after self.old.frame step.now) }
-        ensures streams { OnOk result ((n : ℕ) → get nat_cmp self.new.streams n ≡ stream_after self.old.frame (get nat_cmp self.old.streams) step.now n) }
+        ensures streams { OnOk result ((n : ℕ) → get nat_cmp self.new.streams n
+            ≡ stream_after self.old.frame (get nat_cmp self.old.streams) step.now n) }
     {
         match *step {
             Step::Draw { seat, stream } => self.draw(seat, stream),
@@ -289,11 +304,15 @@ impl Machine {
 
     // Does a step: nothing where its conditions are met, and else the first one that isn't.
     fn try_step(&mut self, step: &Step) -> Result<Option<Unmet>, AllocError>
-        ensures unmet { IfOk result (λ unmet. unmet ≡ first_unmet_known self.old.frame (get nat_cmp self.old.streams) step.now) }
-        ensures frame { IfOk result (λ unmet. unmet ≡ None → self.new.frame ≡ frame_after self.old.frame step.now) }
-        ensures streams { IfOk result (λ unmet. unmet ≡ None → (n : ℕ) → get nat_cmp self.new.streams n ≡ stream_after self.old.frame (get nat_cmp self.old.streams) step.now n) }
+        ensures unmet { IfOk result (λ unmet. unmet
+            ≡ first_unmet_known self.old.frame (get nat_cmp self.old.streams) step.now) }
+        ensures frame { IfOk result (λ unmet. unmet ≡ None
+            → self.new.frame ≡ frame_after self.old.frame step.now) }
+        ensures streams { IfOk result (λ unmet. unmet ≡ None → (n : ℕ)
+            → get nat_cmp self.new.streams n
+            ≡ stream_after self.old.frame (get nat_cmp self.old.streams) step.now n) }
     {
-        let unmet = self.first_unmet(step);
+        let unmet = first_unmet(self, step);
         if unmet.is_none() {
             self.do_step(step)?;
         }
@@ -304,8 +323,10 @@ impl Machine {
     ///
     /// Fails for want of memory alone. What the machine shows is then open.
     pub(crate) fn step(&mut self, step: &Step) -> Result<Option<Unmet>, AllocError>
-        ensures unmet { IfOk result (λ unmet. (core : Core) → Shows core self.old → unmet ≡ first_unmet core step.now) }
-        ensures done { IfOk result (λ unmet. (core : Core) → Shows core self.old → unmet ≡ None → Shows (after_step core step.now) self.new) }
+        ensures unmet { IfOk result (λ unmet. (core : Core) → Shows core self.old
+            → unmet ≡ first_unmet core step.now) }
+        ensures done { IfOk result (λ unmet. (core : Core) → Shows core self.old → unmet ≡ None
+            → Shows (after_step core step.now) self.new) }
     {
         let unmet = self.try_step(step)?;
         Ok(unmet)

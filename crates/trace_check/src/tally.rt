@@ -46,19 +46,14 @@ impl Frame {
         }
         free
     }
-
-    fn next_stream(&self) -> u64
-        ensures { result ≡ self.now.next }
-    {
-        self.next
-    }
 }
 
 impl Machine {
     // How many streams of this outcome there are.
     #[tactic(auto, using(crate::proofs::Tallied::below_more))]
     fn count(&self, outcome: Outcome) -> u64
-        ensures { result ≡ below (λ s. one_if (known (has_outcome outcome) (get nat_cmp self.now.streams s))) self.now.frame.next }
+        ensures { result ≡ below
+            (λ s. one_if (known (has_outcome outcome) (get nat_cmp self.now.streams s))) self.now.frame.next }
     {
         let mut count = 0;
         for number in 0..self.frame.next_stream() {

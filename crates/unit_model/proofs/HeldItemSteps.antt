@@ -9,7 +9,7 @@ use Rattle.unit_model.proofs.HeldItems.{stays_in_place, taken_from_free, taken_f
 use Rattle.unit_model.proofs.MetConditions.{each_met, test_of}
 use Rattle.unit_model.proofs.MetSteps.{either_is_there, engine_is_there, worker_is_there, seat_is_low, fill_there, seat_has_it, first_free, first_in_line, next_is, item_is_low}
 use Rattle.unit_model.proofs.StepFacts.{empty_inside, tag_is, use_inside}
-use Rattle.unit_model.specs.Conditions.{conditions_of, is_engine, is_worker, is_next_stream, is_next_line_place, is_next_free_place}
+use Rattle.unit_model.specs.Conditions.{conditions_by, conditions_of, is_engine, is_worker, is_next_stream, is_next_line_place, is_next_free_place}
 use Rattle.unit_model.specs.Core.{no_queue, queue_of, item_of}
 use Rattle.unit_model.specs.Effects.{after_step, with_note, with_item, with_in_line, with_free, without_first_free, without_first_in_line, noted}
 use Rattle.unit_model.specs.Holding.{IsHeldRight, HasItsItems}
@@ -27,7 +27,7 @@ use Rattle.unit_model.specs.declared.runs.Run.{Run}
 -- ---- a seat's lists alone
 
 pub held_draw : (core : Core) (seat stream : ℕ) → IsHeldRight core → Enabled core (Draw seat stream) → IsHeldRight (after_step core (Draw seat stream))
-unfolding after_step with_note conditions_of is_next_stream
+unfolding after_step with_note conditions_by is_next_stream
 held_draw core seat stream held met =
     let is_next : is_next_stream core stream ≡ None = each_met (conditions_of core (Draw seat stream)) met 1 in
     let next : stream ≡ core.next = eqb-true _ _ (and_parts (stream == core.next) (nat_lt stream (2 ^ 62)) (test_of _ _ _ _ is_next)).0 in
@@ -74,7 +74,7 @@ held_item_twice core q i first second new held sets inside same queue =
     (held_item core q i (λ x. second (first x)) new held sets inside same queue)
 
 pub held_get : (core : Core) (seat queue item place : ℕ) → IsHeldRight core → Enabled core (GetItem seat queue item place) → IsHeldRight (after_step core (GetItem seat queue item place))
-unfolding after_step with_item without_first_free conditions_of
+unfolding after_step with_item without_first_free conditions_by
 held_get core seat queue item place held met =
     let conditions = conditions_of core (GetItem seat queue item place) in
     let there = either_is_there core seat (each_met conditions met 0) in
@@ -86,7 +86,7 @@ held_get core seat queue item place held met =
     (taken_from_free (core.shape.engines + core.shape.workers) (queue_of core queue) item seat new (held.queues queue) inside low first there refl refl refl)
 
 pub held_pop : (core : Core) (seat queue item place : ℕ) → IsHeldRight core → Enabled core (Pop seat queue item place) → IsHeldRight (after_step core (Pop seat queue item place))
-unfolding after_step with_item without_first_in_line conditions_of
+unfolding after_step with_item without_first_in_line conditions_by
 held_pop core seat queue item place held met =
     let conditions = conditions_of core (Pop seat queue item place) in
     let role : (if queue == 0 then is_worker core seat else is_engine core seat) ≡ None = each_met conditions met 0 in
@@ -102,7 +102,7 @@ held_pop core seat queue item place held met =
     (taken_from_line (core.shape.engines + core.shape.workers) (queue_of core queue) item seat new (held.queues queue) inside low first there refl refl refl)
 
 pub held_push : (core : Core) (seat queue item place : ℕ) → IsHeldRight core → Enabled core (Push seat queue item place) → IsHeldRight (after_step core (Push seat queue item place))
-unfolding after_step with_item with_in_line conditions_of is_next_line_place
+unfolding after_step with_item with_in_line conditions_by is_next_line_place
 held_push core seat queue item place held met =
     let conditions = conditions_of core (Push seat queue item place) in
     let there = either_is_there core seat (each_met conditions met 0) in
@@ -115,7 +115,7 @@ held_push core seat queue item place held met =
     (put_in_line (core.shape.engines + core.shape.workers) (queue_of core queue) item seat place new (held.queues queue) inside holds at refl refl refl)
 
 pub held_give : (core : Core) (seat queue item place : ℕ) → IsHeldRight core → Enabled core (GiveItem seat queue item place) → IsHeldRight (after_step core (GiveItem seat queue item place))
-unfolding after_step with_item with_free conditions_of is_next_free_place
+unfolding after_step with_item with_free conditions_by is_next_free_place
 held_give core seat queue item place held met =
     let conditions = conditions_of core (GiveItem seat queue item place) in
     let there = either_is_there core seat (each_met conditions met 0) in
@@ -129,7 +129,7 @@ held_give core seat queue item place held met =
     (put_in_free (core.shape.engines + core.shape.workers) (queue_of core queue) item seat place new (held.queues queue) inside holds at refl none)
 
 pub held_set_run : (core : Core) (seat queue item : ℕ) (run : Run) → IsHeldRight core → Enabled core (SetRun seat queue item run) → IsHeldRight (after_step core (SetRun seat queue item run))
-unfolding after_step with_item conditions_of
+unfolding after_step with_item conditions_by
 held_set_run core seat queue item run held met =
     let conditions = conditions_of core (SetRun seat queue item run) in
     let inside = (fill_there core seat queue item (each_met conditions met 1)).0 in
@@ -139,7 +139,7 @@ held_set_run core seat queue item run held met =
     (stays_in_place (core.shape.engines + core.shape.workers) (queue_of core queue) item new (held.queues queue) inside refl (λ free. none) (λ armed. absurd (armed none)))
 
 pub held_set_part : (core : Core) (seat queue item part : ℕ) → IsHeldRight core → Enabled core (SetPart seat queue item part) → IsHeldRight (after_step core (SetPart seat queue item part))
-unfolding after_step with_item conditions_of
+unfolding after_step with_item conditions_by
 held_set_part core seat queue item part held met =
     let conditions = conditions_of core (SetPart seat queue item part) in
     let inside = (fill_there core seat queue item (each_met conditions met 1)).0 in

@@ -10,7 +10,7 @@ use Rattle.unit_model.proofs.HeldItems.{stays_in_place}
 use Rattle.unit_model.proofs.MetConditions.{each_met, test_of}
 use Rattle.unit_model.proofs.MetSteps.{either_is_there, seat_is_low, fill_there, seat_has_it, run_fits, free_code, seat_code, chunk_has_code, chunks_have_code, in_segments}
 use Rattle.unit_model.proofs.StepFacts.{tag_is, use_inside}
-use Rattle.unit_model.specs.Conditions.{conditions_of, has_stream, is_open, may_open, run_has_owner, may_arm, may_post, may_send, is_last_sent, is_closed, parts_sent, holds_tagged, may_settle}
+use Rattle.unit_model.specs.Conditions.{conditions_by, conditions_of, has_stream, is_open, may_open, run_has_owner, may_arm, may_post, may_send, is_last_sent, is_closed, parts_sent, holds_tagged, may_settle}
 use Rattle.unit_model.specs.Core.{no_queue, queue_of, item_of, seat_of, owner_of, role_of, side_start, side_end, side_opened, chunk_number, number_in}
 use Rattle.unit_model.specs.Effects.{after_step, with_note, with_item, with_owner, with_run_owner, with_opened, noted, armed_note, settled_note, set_all}
 use Rattle.unit_model.specs.Holding.{IsHeldRight, HasItsItems, HasItsOwners, HasNoStreamZero, FitsQueue, IsInRun, is_opened}
@@ -54,7 +54,7 @@ opened_here core seat segment from below =
 -- ---- one chunk
 
 pub held_claim : (core : Core) (seat segment chunk : ℕ) → IsHeldRight core → Enabled core (Claim seat segment chunk) → IsHeldRight (after_step core (Claim seat segment chunk))
-unfolding after_step with_owner conditions_of is_open
+unfolding after_step with_owner conditions_by is_open
 held_claim core seat segment chunk held met =
     let conditions = conditions_of core (Claim seat segment chunk) in
     let there = either_is_there core seat (each_met conditions met 0) in
@@ -71,7 +71,7 @@ held_claim core seat segment chunk held met =
     held_owner core number (Seat seat) held owners segments
 
 pub held_release : (core : Core) (seat segment chunk : ℕ) → IsHeldRight core → Enabled core (Release seat segment chunk) → IsHeldRight (after_step core (Release seat segment chunk))
-unfolding after_step with_owner conditions_of
+unfolding after_step with_owner conditions_by
 held_release core seat segment chunk held met =
     let conditions = conditions_of core (Release seat segment chunk) in
     let there = either_is_there core seat (each_met conditions met 0) in
@@ -108,7 +108,7 @@ held_opened core opened held out back more_out more_back = record {
 }
 
 pub held_open : (core : Core) (seat count : ℕ) → IsHeldRight core → Enabled core (Open seat count) → IsHeldRight (after_step core (Open seat count))
-unfolding after_step with_opened conditions_of may_open
+unfolding after_step with_opened conditions_by may_open
 held_open core seat count held met =
     let conditions = conditions_of core (Open seat count) in
     let left = nat_lt (side_opened core seat) (side_end core seat - side_start core seat) in
@@ -169,7 +169,7 @@ arms_a_stream core seat queue item stream streams met =
     ]
 
 pub held_arm : (core : Core) (seat queue item stream : ℕ) → IsHeldRight core → Enabled core (Arm seat queue item stream) → IsHeldRight (after_step core (Arm seat queue item stream))
-unfolding after_step with_run_owner with_item with_note conditions_of run_has_owner
+unfolding after_step with_run_owner with_item with_note conditions_by run_has_owner
 held_arm core seat queue item stream held met =
     let conditions = conditions_of core (Arm seat queue item stream) in
     let old = item_of core queue item in
@@ -196,7 +196,7 @@ settles_a_stream core seat queue item stream met =
     eqb-false stream 0 (not-true (stream == 0) (and_parts (not (stream == 0)) _ (test_of _ _ _ _ met)).0)
 
 pub held_settle : (core : Core) (seat queue item stream : ℕ) → IsHeldRight core → Enabled core (Settle seat queue item stream) → IsHeldRight (after_step core (Settle seat queue item stream))
-unfolding after_step with_run_owner with_item with_note conditions_of
+unfolding after_step with_run_owner with_item with_note conditions_by
 held_settle core seat queue item stream held met =
     let conditions = conditions_of core (Settle seat queue item stream) in
     let old = item_of core queue item in

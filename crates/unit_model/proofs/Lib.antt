@@ -1,5 +1,6 @@
 pub mod ChangedCore
 pub mod Changes
+pub mod ChunkWeights
 pub mod FirstEntries
 pub mod HeldChunkSteps
 pub mod HeldFrames
@@ -9,7 +10,9 @@ pub mod HeldOpening
 pub mod HeldRunSteps
 pub mod HeldSound
 pub mod HeldSteps
+pub mod Introductions
 pub mod ItemChanges
+pub mod ListPremises
 pub mod Lists
 pub mod Members
 pub mod MetConditions
@@ -20,14 +23,19 @@ pub mod PartFrames
 pub mod PartLaw
 pub mod PartLists
 pub mod PartNotes
+pub mod PartOrderBack
+pub mod PartOrderOthers
 pub mod PartPoints
 pub mod PartSending
 pub mod PartSteps
 pub mod PointCounts
+pub mod Presence
+pub mod RoleLists
+pub mod RoleSteps
+pub mod Rooms
 pub mod Running
-pub mod Sharing
-pub mod Views
 pub mod SeatNotes
+pub mod Sharing
 pub mod SoundRuns
 pub mod StepFacts
 pub mod StreamClasses
@@ -35,4 +43,5 @@ pub mod StreamFrames
 pub mod StreamLaw
 pub mod StreamPoints
 pub mod StreamSteps
+pub mod Views
 pub mod Weights

@@ -3,7 +3,7 @@ use Rattle.std.proofs.Common.{◌≡◌, ◌≢◌, ℕ, ◌+◌, ◌-◌, ◌<�
 use Rattle.std.specs.Prelude.{None}
 use Rattle.std.specs.List.{list_any}
 use Rattle.std.proofs.lemmas.Bool.{and_parts, leb-true, eqb-true, eq-eqb, ne_eqb, cases_eq, cases_Bool}
-use Rattle.unit_model.specs.Conditions.{first_unmet, conditions_of, has_stream, is_either, has_tag, seat_holds, holds, holds_tagged, is_first_free_item, may_arm, may_send, is_last_sent, is_closed, parts_sent, part_of, is_same_part}
+use Rattle.unit_model.specs.Conditions.{first_unmet, conditions_by, conditions_of, has_stream, is_either, has_tag, seat_holds, holds, holds_tagged, is_first_free_item, may_arm, may_send, is_last_sent, is_closed, parts_sent, part_of, is_same_part}
 use Rattle.unit_model.specs.Core.{queue_of, item_of, role_of, seat_of, number_in, first_item, whereabouts_code}
 use Rattle.unit_model.specs.Effects.{after_step, noted, with_note, with_item, with_owner, with_run_owner, with_opened, with_in_line, with_free, without_first_free, without_first_in_line}
 use Rattle.unit_model.specs.Holding.{IsHeldRight, HasItsItems, entries_of, has_item, item_in, is_in_free_list, items_of}
@@ -100,7 +100,7 @@ stays_up : (list : SeatLists → List ℕ) (core new : Core) (seat : ℕ) (note 
 stays_up list core new seat note adds same k s = omega (arith, (stays list core new seat note adds same).each k s)
 
 after_draw : (core : Core) (seat stream : ℕ) → StreamCounts core → PartCounts core → first_unmet core (Draw seat stream) ≡ None → PartCounts (after_step core (Draw seat stream))
-unfolding conditions_of after_step with_note
+unfolding conditions_by after_step with_note
 after_draw core seat stream streams old met =
     let new = after_step core (Draw seat stream) in
     let there = facts.engine_there core seat streams (each_met (conditions_of core (Draw seat stream)) met 0) in
@@ -108,7 +108,7 @@ after_draw core seat stream streams old met =
     other_note core new seat (Drawn stream) refl adds (λ l. refl) (λ l. refl) (λ l. refl) (stays_up taken core new seat (Drawn stream) adds (λ l. refl)) (stays_up posted core new seat (Drawn stream) adds (λ l. refl)) (backs_with_queues core new refl) old
 
 after_abandon : (core : Core) (seat stream : ℕ) → StreamCounts core → PartCounts core → first_unmet core (Abandon seat stream) ≡ None → PartCounts (after_step core (Abandon seat stream))
-unfolding conditions_of after_step with_note
+unfolding conditions_by after_step with_note
 after_abandon core seat stream streams old met =
     let new = after_step core (Abandon seat stream) in
     let there = facts.engine_there core seat streams (each_met (conditions_of core (Abandon seat stream)) met 0) in
@@ -146,13 +146,13 @@ quiet_item core new queue item now shape seats sets tag part held old =
     ]
 
 after_set_run : (core : Core) (seat queue item : ℕ) (run : Run) → PartCounts core → first_unmet core (SetRun seat queue item run) ≡ None → PartCounts (after_step core (SetRun seat queue item run))
-unfolding conditions_of after_step with_item
+unfolding conditions_by after_step with_item
 after_set_run core seat queue item run old met =
     let inside = facts.fill_inside core seat queue item (each_met (conditions_of core (SetRun seat queue item run)) met 1) in
     quiet_item core (after_step core (SetRun seat queue item run)) queue item _ refl refl (facts.sets_after_run core seat queue item run inside) refl (λ tagged. refl) (λ k back worker is tagged. is) old
 
 after_set_part : (core : Core) (seat queue item part : ℕ) → PartCounts core → first_unmet core (SetPart seat queue item part) ≡ None → PartCounts (after_step core (SetPart seat queue item part))
-unfolding conditions_of after_step with_item
+unfolding conditions_by after_step with_item
 after_set_part core seat queue item part old met =
     let conditions = conditions_of core (SetPart seat queue item part) in
     let inside = facts.fill_inside core seat queue item (each_met conditions met 1) in
@@ -160,20 +160,20 @@ after_set_part core seat queue item part old met =
     quiet_item core (after_step core (SetPart seat queue item part)) queue item _ refl refl (facts.sets_after_part core seat queue item part inside) refl (λ tagged. absurd (tagged untagged)) (λ k back worker is tagged. is) old
 
 after_push : (core : Core) (seat queue item place : ℕ) → PartCounts core → first_unmet core (Push seat queue item place) ≡ None → PartCounts (after_step core (Push seat queue item place))
-unfolding conditions_of after_step with_item with_in_line
+unfolding conditions_by after_step with_item with_in_line
 after_push core seat queue item place old met =
     let inside = facts.fill_inside core seat queue item (each_met (conditions_of core (Push seat queue item place)) met 1) in
     quiet_item core (after_step core (Push seat queue item place)) queue item _ refl refl (facts.sets_after_push core seat queue item place inside) refl (λ tagged. refl) (λ k back worker is tagged. absurd (cc is)) old
 
 after_give : (core : Core) (seat queue item place : ℕ) → PartCounts core → first_unmet core (GiveItem seat queue item place) ≡ None → PartCounts (after_step core (GiveItem seat queue item place))
-unfolding conditions_of after_step with_item with_free
+unfolding conditions_by after_step with_item with_free
 after_give core seat queue item place old met =
     let inside = facts.use_inside core queue item (each_met (conditions_of core (GiveItem seat queue item place)) met 1) in
     quiet_item core (after_step core (GiveItem seat queue item place)) queue item _ refl refl (facts.sets_after_give core seat queue item place inside) refl (λ tagged. refl) (λ k back worker is tagged. absurd (cc is)) old
 
 -- an item that is taken from a free list has no tag
 after_get : (core : Core) (seat queue item place : ℕ) → IsHeldRight core → PartCounts core → first_unmet core (GetItem seat queue item place) ≡ None → PartCounts (after_step core (GetItem seat queue item place))
-unfolding conditions_of after_step with_item without_first_free is_first_free_item
+unfolding conditions_by after_step with_item without_first_free is_first_free_item
 after_get core seat queue item place held old met =
     let conditions = conditions_of core (GetItem seat queue item place) in
     let inside = facts.fill_inside core seat queue item (each_met conditions met 1) in
@@ -184,7 +184,7 @@ after_get core seat queue item place held old met =
 
 -- an engine takes from a back queue's line
 after_pop : (core : Core) (seat queue item place : ℕ) → PartCounts core → first_unmet core (Pop seat queue item place) ≡ None → PartCounts (after_step core (Pop seat queue item place))
-unfolding conditions_of after_step with_item without_first_in_line
+unfolding conditions_by after_step with_item without_first_in_line
 after_pop core seat queue item place old met =
     let conditions = conditions_of core (Pop seat queue item place) in
     let inside = facts.empty_inside core seat queue item (each_met conditions met 1) in
@@ -195,7 +195,7 @@ after_pop core seat queue item place old met =
 -- ---- items of the line's queue
 
 after_arm_line : (core : Core) (seat item stream : ℕ) → StreamCounts core → PartCounts core → first_unmet core (Arm seat 0 item stream) ≡ None → PartCounts (after_step core (Arm seat 0 item stream))
-unfolding conditions_of after_step with_item with_note with_run_owner
+unfolding conditions_by after_step with_item with_note with_run_owner
 after_arm_line core seat item stream streams old met =
     let conditions = conditions_of core (Arm seat 0 item stream) in
     let new = after_step core (Arm seat 0 item stream) in
@@ -206,7 +206,7 @@ after_arm_line core seat item stream streams old met =
     other_note core new seat (Posted stream) refl adds (λ l. refl) (λ l. refl) (λ l. refl) (stays_up taken core new seat (Posted stream) adds (λ l. refl)) (λ k s. rises posted core new seat stream p k s) (backs_beside core new item _ (facts.sets_after_arm core seat 0 item stream inside)) old
 
 after_settle_line : (core : Core) (seat item stream : ℕ) (engine : Bool) → (role_of core seat == 0) ≡ engine → StreamCounts core → PartCounts core → first_unmet core (Settle seat 0 item stream) ≡ None → PartCounts (after_step core (Settle seat 0 item stream))
-unfolding conditions_of after_step with_item with_note with_run_owner
+unfolding conditions_by after_step with_item with_note with_run_owner
 after_settle_line core seat item stream true role streams old met =
     let conditions = conditions_of core (Settle seat 0 item stream) in
     let new = after_step core (Settle seat 0 item stream) in
@@ -262,7 +262,7 @@ sending core seat engine item stream streams may_met holds_met tag_met =
     }
 
 after_arm_back : (core : Core) (seat engine item stream : ℕ) → StreamCounts core → PartCounts core → first_unmet core (Arm seat (1 + engine) item stream) ≡ None → PartCounts (after_step core (Arm seat (1 + engine) item stream))
-unfolding conditions_of after_step with_item with_note with_run_owner
+unfolding conditions_by after_step with_item with_note with_run_owner
 after_arm_back core seat engine item stream streams old met =
     let queue : ℕ = 1 + engine in
     let conditions = conditions_of core (Arm seat queue item stream) in
@@ -295,7 +295,7 @@ worker_of role least other =
     ]
 
 after_settle_back : (core : Core) (seat queue item stream : ℕ) (engine : Bool) → (role_of core seat == 0) ≡ engine → queue ≢ 0 → IsHeldRight core → StreamCounts core → PartCounts core → first_unmet core (Settle seat queue item stream) ≡ None → PartCounts (after_step core (Settle seat queue item stream))
-unfolding conditions_of after_step with_item with_note with_run_owner is_either
+unfolding conditions_by after_step with_item with_note with_run_owner is_either
 after_settle_back core seat queue item stream true role back held streams old met =
     let conditions = conditions_of core (Settle seat queue item stream) in
     let new = after_step core (Settle seat queue item stream) in

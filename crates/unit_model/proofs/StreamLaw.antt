@@ -3,7 +3,7 @@ use Rattle.std.proofs.Common.{◌≡◌, ◌≢◌, ℕ, ◌≤◌, ◌^◌, ◌
 use Rattle.std.specs.Prelude.{None}
 use Rattle.std.specs.List.{list_any}
 use Rattle.std.proofs.lemmas.Bool.{and_parts, eqb-true, eq-eqb, cases_eq, cases_Bool}
-use Rattle.unit_model.specs.Conditions.{first_unmet, conditions_of, has_stream, is_next_stream, may_arm, may_post, may_settle, may_win_request, may_win_part, may_abandon, is_taken, part_of}
+use Rattle.unit_model.specs.Conditions.{first_unmet, conditions_by, conditions_of, has_stream, is_next_stream, may_arm, may_post, may_settle, may_win_request, may_win_part, may_abandon, is_taken, part_of}
 use Rattle.unit_model.specs.Core.{item_of, role_of, seat_of}
 use Rattle.unit_model.specs.Effects.{after_step, with_note, with_item, with_owner, with_run_owner, with_opened, with_in_line, with_free, without_first_free, without_first_in_line}
 use Rattle.unit_model.specs.Running.{Enabled}
@@ -26,7 +26,7 @@ use Rattle.unit_model.proofs.StreamFrames.{SameStreams, frame_with_note, frame_w
 use Rattle.unit_model.proofs.StreamSteps.{draws, posts, cancels, takes, abandons}
 
 after_draw : (core : Core) (seat stream : ℕ) → StreamCounts core → first_unmet core (Draw seat stream) ≡ None → StreamCounts (after_step core (Draw seat stream))
-unfolding conditions_of is_next_stream after_step with_note
+unfolding conditions_by is_next_stream after_step with_note
 after_draw core seat stream old met =
     let conditions = conditions_of core (Draw seat stream) in
     let inside = facts.engine_there core seat old (each_met conditions met 0) in
@@ -60,38 +60,38 @@ after_open core seat count old =
     streams_kept core new (frame_with_seats core new refl refl refl) (streams_with_seats core new refl) (line_with_queues core new refl) old
 
 after_get : (core : Core) (seat queue item place : ℕ) → StreamCounts core → first_unmet core (GetItem seat queue item place) ≡ None → StreamCounts (after_step core (GetItem seat queue item place))
-unfolding conditions_of after_step with_item without_first_free
+unfolding conditions_by after_step with_item without_first_free
 after_get core seat queue item place old met =
     let inside = facts.fill_inside core seat queue item (each_met (conditions_of core (GetItem seat queue item place)) met 1) in
     item_changed core (after_step core (GetItem seat queue item place)) queue item _ refl refl refl (facts.sets_after_get core seat queue item place inside) refl (λ tagged. refl) old
 
 after_pop : (core : Core) (seat queue item place : ℕ) → StreamCounts core → first_unmet core (Pop seat queue item place) ≡ None → StreamCounts (after_step core (Pop seat queue item place))
-unfolding conditions_of after_step with_item without_first_in_line
+unfolding conditions_by after_step with_item without_first_in_line
 after_pop core seat queue item place old met =
     let inside = facts.empty_inside core seat queue item (each_met (conditions_of core (Pop seat queue item place)) met 1) in
     item_changed core (after_step core (Pop seat queue item place)) queue item _ refl refl refl (facts.sets_after_pop core seat queue item place inside) refl (λ tagged. refl) old
 
 after_push : (core : Core) (seat queue item place : ℕ) → StreamCounts core → first_unmet core (Push seat queue item place) ≡ None → StreamCounts (after_step core (Push seat queue item place))
-unfolding conditions_of after_step with_item with_in_line
+unfolding conditions_by after_step with_item with_in_line
 after_push core seat queue item place old met =
     let inside = facts.fill_inside core seat queue item (each_met (conditions_of core (Push seat queue item place)) met 1) in
     item_changed core (after_step core (Push seat queue item place)) queue item _ refl refl refl (facts.sets_after_push core seat queue item place inside) refl (λ tagged. refl) old
 
 after_give : (core : Core) (seat queue item place : ℕ) → StreamCounts core → first_unmet core (GiveItem seat queue item place) ≡ None → StreamCounts (after_step core (GiveItem seat queue item place))
-unfolding conditions_of after_step with_item with_free
+unfolding conditions_by after_step with_item with_free
 after_give core seat queue item place old met =
     let inside = facts.use_inside core queue item (each_met (conditions_of core (GiveItem seat queue item place)) met 1) in
     item_changed core (after_step core (GiveItem seat queue item place)) queue item _ refl refl refl (facts.sets_after_give core seat queue item place inside) refl (λ tagged. refl) old
 
 after_set_run : (core : Core) (seat queue item : ℕ) (run : Run) → StreamCounts core → first_unmet core (SetRun seat queue item run) ≡ None → StreamCounts (after_step core (SetRun seat queue item run))
-unfolding conditions_of after_step with_item
+unfolding conditions_by after_step with_item
 after_set_run core seat queue item run old met =
     let inside = facts.fill_inside core seat queue item (each_met (conditions_of core (SetRun seat queue item run)) met 1) in
     item_changed core (after_step core (SetRun seat queue item run)) queue item _ refl refl refl (facts.sets_after_run core seat queue item run inside) refl (λ tagged. refl) old
 
 -- the item whose part is set has no tag
 after_set_part : (core : Core) (seat queue item part : ℕ) → StreamCounts core → first_unmet core (SetPart seat queue item part) ≡ None → StreamCounts (after_step core (SetPart seat queue item part))
-unfolding conditions_of after_step with_item
+unfolding conditions_by after_step with_item
 after_set_part core seat queue item part old met =
     let conditions = conditions_of core (SetPart seat queue item part) in
     let inside = facts.fill_inside core seat queue item (each_met conditions met 1) in
@@ -120,7 +120,7 @@ posting core seat item stream met =
     (has_counts stream lists.drawn tests.0, has_not_counts stream lists.posted (not_true (has_stream stream lists.posted) rest.0), eqb-true (item_of core 0 item).part seat rest.1)
 
 after_arm_line : (core : Core) (seat item stream : ℕ) → StreamCounts core → first_unmet core (Arm seat 0 item stream) ≡ None → StreamCounts (after_step core (Arm seat 0 item stream))
-unfolding conditions_of after_step with_item with_note with_run_owner
+unfolding conditions_by after_step with_item with_note with_run_owner
 after_arm_line core seat item stream old met =
     let conditions = conditions_of core (Arm seat 0 item stream) in
     let new = after_step core (Arm seat 0 item stream) in
@@ -160,7 +160,7 @@ same_with_closed core new seat stream adds = record {
 }
 
 after_arm_back : (core : Core) (seat queue item stream : ℕ) → queue ≢ 0 → StreamCounts core → first_unmet core (Arm seat queue item stream) ≡ None → StreamCounts (after_step core (Arm seat queue item stream))
-unfolding conditions_of after_step with_item with_note with_run_owner
+unfolding conditions_by after_step with_item with_note with_run_owner
 after_arm_back core seat queue item stream back old met =
     let conditions = conditions_of core (Arm seat queue item stream) in
     let new = after_step core (Arm seat queue item stream) in
@@ -187,7 +187,7 @@ settling core seat queue item stream met =
     (some, tests.1)
 
 after_settle_line : (core : Core) (seat item stream : ℕ) (engine : Bool) → (role_of core seat == 0) ≡ engine → StreamCounts core → first_unmet core (Settle seat 0 item stream) ≡ None → StreamCounts (after_step core (Settle seat 0 item stream))
-unfolding conditions_of after_step with_item with_note with_run_owner
+unfolding conditions_by after_step with_item with_note with_run_owner
 after_settle_line core seat item stream true role old met =
     let conditions = conditions_of core (Settle seat 0 item stream) in
     let new = after_step core (Settle seat 0 item stream) in
@@ -209,7 +209,7 @@ after_settle_line core seat item stream false role old met =
     takes core new seat item stream _ adds (frame_with_note core new seat (Taken stream) refl refl adds) (facts.sets_after_settle core seat 0 item stream inside) refl tag may.0 old
 
 after_settle_back : (core : Core) (seat queue item stream : ℕ) (engine : Bool) → (role_of core seat == 0) ≡ engine → queue ≢ 0 → StreamCounts core → first_unmet core (Settle seat queue item stream) ≡ None → StreamCounts (after_step core (Settle seat queue item stream))
-unfolding conditions_of after_step with_item with_note with_run_owner
+unfolding conditions_by after_step with_item with_note with_run_owner
 after_settle_back core seat queue item stream true role back old met =
     let conditions = conditions_of core (Settle seat queue item stream) in
     let new = after_step core (Settle seat queue item stream) in
@@ -247,7 +247,7 @@ taken_counts stream (l ∷ seats) any =
     ]
 
 after_abandon : (core : Core) (seat stream : ℕ) → StreamCounts core → first_unmet core (Abandon seat stream) ≡ None → StreamCounts (after_step core (Abandon seat stream))
-unfolding conditions_of after_step with_note may_abandon
+unfolding conditions_by after_step with_note may_abandon
 after_abandon core seat stream old met =
     let conditions = conditions_of core (Abandon seat stream) in
     let new = after_step core (Abandon seat stream) in

@@ -30,3 +30,8 @@ sum_split f vs k v left right at parts = omega (arith, parts, weigh_push f (set 
 -- two views are made one
 pub sum_join : {V : Type 0} (f : V → ℕ) (vs : List V) (k other : ℕ) (v w both spent : V) → get_elem? vs k ≡ some v → get_elem? (set vs k both) other ≡ some w → f both + f spent ≡ f v + f w → weigh f (set (set vs k both) other spent) ≡ weigh f vs
 sum_join f vs k other v w both spent at there parts = omega (arith, parts, sum_set f vs k v both at, sum_set f (set vs k both) other w spent there)
+
+-- of one view alone, each view is it
+pub only_view : {V : Type 0} (x v : V) (k : ℕ) → get_elem? (x ∷ []) k ≡ some v → x ≡ v
+only_view x v zero at = some-injective x v at
+only_view x v (suc k) at = absurd (some-ne-none v (sym at))

@@ -18,15 +18,18 @@ CountsAtFirst = (shape : Shape) → StreamCounts (opened_core shape) × PartCoun
 
 -- an enabled step keeps what holds of the counts of streams
 abbrev pub StepKeepsStreams : Type 0
-StepKeepsStreams = (core : Core) (step : Step) → StreamCounts core → Enabled core step → StreamCounts (after_step core step)
+StepKeepsStreams = (core : Core) (step : Step) → StreamCounts core → Enabled core step
+    → StreamCounts (after_step core step)
 
 -- and what holds of the counts of parts, where the core is held right
 abbrev pub StepKeepsParts : Type 0
-StepKeepsParts = (core : Core) (step : Step) → IsHeldRight core → StreamCounts core → PartCounts core → Enabled core step → PartCounts (after_step core step)
+StepKeepsParts = (core : Core) (step : Step) → IsHeldRight core → StreamCounts core
+    → PartCounts core → Enabled core step → PartCounts (after_step core step)
 
 -- the counts say each point on streams and parts, and the points say the counts
 abbrev pub CountsAreThePoints : Type 0
-CountsAreThePoints = (core : Core) → IsHeldRight core → (StreamCounts core × PartCounts core) ↔ HasSoundStreams core
+CountsAreThePoints = (core : Core) → IsHeldRight core
+    → (StreamCounts core × PartCounts core) ↔ HasSoundStreams core
 
 -- what became of the streams
 pub record StreamsAddUp (core : Core) : Type 0 where

@@ -40,7 +40,8 @@ abbrev pub change_queue : ℕ → (Queue → Queue) → Core → Core
 change_queue queue change core = record core { queues = change_at queue change core.queues }
 
 unfoldable pub with_item : ℕ → ℕ → Item → Core → Core
-with_item queue item new core = change_queue queue (λ q. record q { items = set q.items item new }) core
+with_item queue item new core =
+    change_queue queue (λ q. record q { items = set q.items item new }) core
 
 unfoldable pub without_first_free : ℕ → Core → Core
 without_first_free queue core = change_queue queue (λ q. record q { free = drop 1 q.free }) core
@@ -49,10 +50,20 @@ unfoldable pub without_first_in_line : ℕ → Core → Core
 without_first_in_line queue core = change_queue queue (λ q. record q { line = drop 1 q.line }) core
 
 unfoldable pub with_free : ℕ → Entry → Core → Core
-with_free queue entry core = change_queue queue (λ q. record q { free = q.free ++ entry ∷ []; next_free = entry.place + 1 }) core
+with_free queue entry core =
+    change_queue queue (λ q. record q {
+      free =
+          q.free ++ entry ∷ [];
+      next_free = entry.place + 1;
+    }) core
 
 unfoldable pub with_in_line : ℕ → Entry → Core → Core
-with_in_line queue entry core = change_queue queue (λ q. record q { line = q.line ++ entry ∷ []; next_line = entry.place + 1 }) core
+with_in_line queue entry core =
+    change_queue queue (λ q. record q {
+      line =
+          q.line ++ entry ∷ [];
+      next_line = entry.place + 1;
+    }) core
 
 -- ---- chunks
 
@@ -66,11 +77,18 @@ set_all xs first (suc count) x = set (set_all xs first count x) (first + count) 
 
 unfoldable pub with_run_owner : Run → Owner → Core → Core
 with_run_owner run owner core =
-    record core { owners = set_all core.owners (chunk_number run.segment run.chunk) (chunks_for run.size) owner }
+    record core {
+      owners =
+          set_all core.owners (chunk_number run.segment run.chunk) (chunks_for run.size) owner;
+    }
 
 unfoldable pub with_opened : ℕ → ℕ → Core → Core
 with_opened seat count core =
-    record core { opened = if role_of core seat == 0 then record core.opened { out = count } else record core.opened { back = count } }
+    let opened =
+    if role_of core seat == 0
+    then record core.opened { out = count }
+    else record core.opened { back = count } in
+    record core { opened = opened }
 
 -- ---- what each step does
 
@@ -86,14 +104,21 @@ settled_note is_engine queue stream item =
     else (if queue == 0 then Taken stream else Closed stream)
 
 unfoldable pub after_step : Core → Step → Core
-after_step core (Draw seat stream) = record (with_note seat (Drawn stream) core) { next = stream + 1 }
-after_step core (Claim seat segment chunk) = with_owner (chunk_number segment chunk) (Seat seat) core
+after_step core (Draw seat stream) =
+    record (with_note seat (Drawn stream) core) { next = stream + 1 }
+after_step core (Claim seat segment chunk) =
+    with_owner (chunk_number segment chunk) (Seat seat) core
 after_step core (Release seat segment chunk) = with_owner (chunk_number segment chunk) Free core
 after_step core (Open seat count) = with_opened seat (count + 1) core
 after_step core (GetItem seat queue item place) =
-    with_item queue item (record (item_of core queue item) { whereabouts = WithSeat seat }) (without_first_free queue core)
-after_step core (SetRun seat queue item run) = with_item queue item (record (item_of core queue item) { run = run }) core
-after_step core (SetPart seat queue item part) = with_item queue item (record (item_of core queue item) { part = part }) core
+    with_item queue item (record (item_of core queue item) {
+      whereabouts =
+          WithSeat seat;
+    }) (without_first_free queue core)
+after_step core (SetRun seat queue item run) =
+    with_item queue item (record (item_of core queue item) { run = run }) core
+after_step core (SetPart seat queue item part) =
+    with_item queue item (record (item_of core queue item) { part = part }) core
 after_step core (Arm seat queue item stream) =
     let old = item_of core queue item in
     with_run_owner old.run (Message queue item)
@@ -103,7 +128,10 @@ after_step core (Push seat queue item place) =
     with_item queue item (record (item_of core queue item) { whereabouts = InLine })
     (with_in_line queue (record { place = place; item = item }) core)
 after_step core (Pop seat queue item place) =
-    with_item queue item (record (item_of core queue item) { whereabouts = WithSeat seat }) (without_first_in_line queue core)
+    with_item queue item (record (item_of core queue item) {
+      whereabouts =
+          WithSeat seat;
+    }) (without_first_in_line queue core)
 after_step core (Settle seat queue item stream) =
     let old = item_of core queue item in
     with_run_owner old.run (Seat seat)

@@ -23,5 +23,6 @@ line_of (Arm seat queue item stream) = line (codes "arm") (seat ∷ queue ∷ it
 line_of (Push seat queue item place) = line (codes "push") (seat ∷ queue ∷ item ∷ place ∷ [])
 line_of (Pop seat queue item place) = line (codes "pop") (seat ∷ queue ∷ item ∷ place ∷ [])
 line_of (Settle seat queue item stream) = line (codes "settle") (seat ∷ queue ∷ item ∷ stream ∷ [])
-line_of (GiveItem seat queue item place) = line (codes "giveitem") (seat ∷ queue ∷ item ∷ place ∷ [])
+line_of (GiveItem seat queue item place) =
+    line (codes "giveitem") (seat ∷ queue ∷ item ∷ place ∷ [])
 line_of (Abandon seat stream) = line (codes "abandon") (seat ∷ stream ∷ [])

@@ -69,29 +69,47 @@ times_under_way core stream number = over_back_items (carries stream number) cor
 
 -- how often the part was taken back: it is the final one of a stream that is closed
 abbrev pub times_withdrawn : Core → ℕ → ℕ → ℕ
-times_withdrawn core stream number = if number + 1 == parts_sent core stream then by_all closed core stream else 0
+times_withdrawn core stream number =
+    if number + 1 == parts_sent core stream then by_all closed core stream else 0
 
 -- ---- what holds of them after every step
 
 pub record PartCounts (core : Core) : Type 0 where
   -- a seat closes what it took
-  pub closed_by_taker : (seat stream : ℕ) → by_seat closed core seat stream ≤ by_seat taken core seat stream
+  pub closed_by_taker : (seat stream : ℕ)
+      → by_seat closed core seat stream ≤ by_seat taken core seat stream
   -- a seat sends parts of what it took
-  pub sent_by_taker : (seat stream : ℕ) → 1 ≤ parts_by_seat sent core seat stream → 1 ≤ by_seat taken core seat stream
+  pub sent_by_taker : (seat stream : ℕ) → 1 ≤ parts_by_seat sent core seat stream
+      → 1 ≤ by_seat taken core seat stream
   -- a seat receives parts of what it posted
-  pub received_by_poster : (seat stream : ℕ) → 1 ≤ parts_by_seat received core seat stream → 1 ≤ by_seat posted core seat stream
+  pub received_by_poster : (seat stream : ℕ) → 1 ≤ parts_by_seat received core seat stream
+      → 1 ≤ by_seat posted core seat stream
   -- the sent parts of a stream are 0, 1, 2 and so on
-  pub in_order : (seat stream place : ℕ) → place < length (sent_parts core seat stream) → (get_or (sent_parts core seat stream) place no_part).number ≡ place
+  pub in_order : (seat stream place : ℕ) → place < length (sent_parts core seat stream)
+      → (get_or (sent_parts core seat stream) place no_part).number ≡ place
   -- and only the final one may be the last
-  pub last_is_final : (seat stream place : ℕ) → place < length (sent_parts core seat stream) → (get_or (sent_parts core seat stream) place no_part).last ≡ true → place + 1 ≡ length (sent_parts core seat stream)
+  pub last_is_final : (seat stream place : ℕ) → place < length (sent_parts core seat stream)
+      → (get_or (sent_parts core seat stream) place no_part).last ≡ true
+      → place + 1 ≡ length (sent_parts core seat stream)
   -- a sent part is under way, received, or taken back, and no other part is
-  pub one_state : (stream number : ℕ) → stream ≢ 0 → times_under_way core stream number + times_received core stream number + times_withdrawn core stream number ≡ one_if (nat_lt number (parts_sent core stream))
+  pub one_state : (stream number : ℕ) → stream ≢ 0 → times_under_way core stream number
+      + times_received core stream number + times_withdrawn core stream number
+      ≡ one_if (nat_lt number (parts_sent core stream))
   -- a part under way in the queue of an engine is of a stream that the engine posted
-  pub to_poster : (engine item : ℕ) → (item_of core (1 + engine) item).tag ≢ 0 → 1 ≤ by_seat posted core engine (item_of core (1 + engine) item).tag
+  pub to_poster : (engine item : ℕ) → (item_of core (1 + engine) item).tag ≢ 0
+      → 1 ≤ by_seat posted core engine (item_of core (1 + engine) item).tag
   -- and was sent as it is
   pub under_way_was_sent : (engine item : ℕ) → (item_of core (1 + engine) item).tag ≢ 0 → 1 ≤ times_sent core (part_of (item_of core (1 + engine) item).tag (item_of core (1 + engine) item))
   -- a received part was sent as it is
-  pub received_was_sent : (part : Part) → 1 ≤ over_all (same_part part) received core.seats → 1 ≤ times_sent core part
+  pub received_was_sent : (part : Part) → 1 ≤ over_all (same_part part) received core.seats
+      → 1 ≤ times_sent core part
   -- what a worker holds of a back queue with a tag is the final part of a stream, and the worker sent it
-  pub held_is_own : (seat engine item : ℕ) → role_of core seat ≡ 1 → (item_of core (1 + engine) item).whereabouts ≡ WithSeat seat → (item_of core (1 + engine) item).tag ≢ 0 → 1 ≤ parts_by_seat sent core seat (item_of core (1 + engine) item).tag
-  pub held_is_final : (seat engine item : ℕ) → role_of core seat ≡ 1 → (item_of core (1 + engine) item).whereabouts ≡ WithSeat seat → (item_of core (1 + engine) item).tag ≢ 0 → number_in (item_of core (1 + engine) item).part + 1 ≡ parts_sent core (item_of core (1 + engine) item).tag
+  pub held_is_own : (seat engine item : ℕ) → role_of core seat ≡ 1
+      → (item_of core (1 + engine) item).whereabouts ≡ WithSeat seat
+      → (item_of core (1 + engine) item).tag ≢ 0
+      → 1 ≤ parts_by_seat sent core seat (item_of core (1 + engine) item).tag
+  pub held_is_final : (seat engine item : ℕ) → role_of core seat ≡ 1
+      → (item_of core (1 + engine) item).whereabouts ≡ WithSeat seat
+      → (item_of core (1 + engine) item).tag ≢ 0
+      → number_in (item_of core (1 + engine) item).part + 1
+      ≡ parts_sent core (item_of core (1 + engine) item).tag

@@ -14,7 +14,8 @@ Enabled core step = first_unmet core step ≡ None
 
 -- the fault of a step whose first unmet condition is this: that condition, and want of memory where there is none
 abbrev pub IsFaultOf : Option Unmet → StepFault → Type 0
-IsFaultOf unmet (NotEnabled rule want found) = unmet ≡ Some (record { rule = rule; want = want; found = found })
+IsFaultOf unmet (NotEnabled rule want found) =
+    unmet ≡ Some (record { rule = rule; want = want; found = found })
 IsFaultOf unmet Memory = unmet ≡ None
 
 -- the core after these steps

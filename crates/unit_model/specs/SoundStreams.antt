@@ -40,7 +40,8 @@ last_of stream part = one_if (part.stream == stream && part.last)
 -- no two items of the line's queue have one tag
 abbrev pub NoRequestTwice : Core → Type 0
 NoRequestTwice core =
-    (one other : ℕ) → IsArmed core 0 one → (item_of core 0 one).tag ≡ (item_of core 0 other).tag → one ≡ other
+    (one other : ℕ) → IsArmed core 0 one → (item_of core 0 one).tag ≡ (item_of core 0 other).tag
+    → one ≡ other
 
 -- no two items of a back queue have one tag and one part number
 abbrev pub NoPartTwice : Core → Type 0
@@ -48,19 +49,22 @@ NoPartTwice core =
     (engine one other : ℕ)
     → IsArmed core (1 + engine) one
     → (item_of core (1 + engine) one).tag ≡ (item_of core (1 + engine) other).tag
-    → number_in (item_of core (1 + engine) one).part ≡ number_in (item_of core (1 + engine) other).part
+    → number_in (item_of core (1 + engine) one).part
+    ≡ number_in (item_of core (1 + engine) other).part
     → one ≡ other
 
 -- the part word of an item of the line's queue with a tag is the seat that posted the tag
 abbrev pub PartIsPoster : Core → Type 0
 PartIsPoster core =
-    (item : ℕ) → IsArmed core 0 item → Contains (seat_of core (item_of core 0 item).part).posted (item_of core 0 item).tag
+    (item : ℕ) → IsArmed core 0 item
+    → Contains (seat_of core (item_of core 0 item).part).posted (item_of core 0 item).tag
 
 -- ---- the streams
 
 -- over all seats, no stream is taken and cancelled, nor twice in either
 pub record TakenOrCancelled (core : Core) : Type 0 where
-  pub apart : (stream one other : ℕ) → Contains (seat_of core one).taken stream → Contains (seat_of core other).cancelled stream → ⊥
+  pub apart : (stream one other : ℕ) → Contains (seat_of core one).taken stream
+      → Contains (seat_of core other).cancelled stream → ⊥
   pub taken_once : (stream : ℕ) → by_all taken core stream ≤ 1
   pub cancelled_once : (stream : ℕ) → by_all cancelled core stream ≤ 1
 
@@ -69,7 +73,8 @@ pub record TakenOrCancelled (core : Core) : Type 0 where
 pub record ReceivedOnce (core : Core) : Type 0 where
   pub once : (stream number : ℕ) → times_received core stream number ≤ 1
   pub one_last : (stream : ℕ) → over_all (last_of stream) received core.seats ≤ 1
-  pub received_is_taken : (seat : ℕ) (part : Part) → Contains (seat_of core seat).received part → IsTaken core part.stream
+  pub received_is_taken : (seat : ℕ) (part : Part) → Contains (seat_of core seat).received part
+      → IsTaken core part.stream
 
 -- the stream is in none of the lists of a seat
 pub record IsInNone (lists : SeatLists) (stream : ℕ) : Type 0 where
@@ -85,50 +90,74 @@ pub record IsInNone (lists : SeatLists) (stream : ℕ) : Type 0 where
 -- each stream from 1 up to, not including, the next one is in one drawn list, once; no other stream is in any list
 pub record DrawnInOrder (core : Core) : Type 0 where
   pub once : (stream : ℕ) → 1 ≤ stream → stream < core.next → by_all drawn core stream ≡ 1
-  pub no_other : (stream : ℕ) → (stream ≡ 0) ⊎ (core.next ≤ stream) → (seat : ℕ) → IsInNone (seat_of core seat) stream
+  pub no_other : (stream : ℕ) → (stream ≡ 0) ⊎ (core.next ≤ stream) → (seat : ℕ)
+      → IsInNone (seat_of core seat) stream
 
 pub record PostedOnce (core : Core) : Type 0 where
   -- the tags of the line's queue, and what is taken or cancelled, were posted; what is cancelled by its poster
   pub tag_is_posted : (item : ℕ) → IsArmed core 0 item → IsPosted core (item_of core 0 item).tag
-  pub taken_is_posted : (seat stream : ℕ) → Contains (seat_of core seat).taken stream → IsPosted core stream
-  pub cancelled_by_poster : (seat stream : ℕ) → Contains (seat_of core seat).cancelled stream → Contains (seat_of core seat).posted stream
+  pub taken_is_posted : (seat stream : ℕ) → Contains (seat_of core seat).taken stream
+      → IsPosted core stream
+  pub cancelled_by_poster : (seat stream : ℕ) → Contains (seat_of core seat).cancelled stream
+      → Contains (seat_of core seat).posted stream
   -- a posted stream is posted once, by its drawer
   pub once : (stream : ℕ) → by_all posted core stream ≤ 1
-  pub by_drawer : (seat stream : ℕ) → Contains (seat_of core seat).posted stream → Contains (seat_of core seat).drawn stream
+  pub by_drawer : (seat stream : ℕ) → Contains (seat_of core seat).posted stream
+      → Contains (seat_of core seat).drawn stream
   -- and is one of: the tag of one item of the line's queue, taken once, cancelled once
-  pub one_state : (stream : ℕ) → IsPosted core stream → line_tags core stream + by_all taken core stream + by_all cancelled core stream ≡ 1
+  pub one_state : (stream : ℕ) → IsPosted core stream
+      → line_tags core stream + by_all taken core stream + by_all cancelled core stream ≡ 1
 
 -- an abandoned stream was posted by that seat, is abandoned once, is taken, and isn't cancelled
 pub record AbandonedOnce (core : Core) : Type 0 where
-  pub by_poster : (seat stream : ℕ) → Contains (seat_of core seat).abandoned stream → Contains (seat_of core seat).posted stream
+  pub by_poster : (seat stream : ℕ) → Contains (seat_of core seat).abandoned stream
+      → Contains (seat_of core seat).posted stream
   pub once : (stream : ℕ) → by_all abandoned core stream ≤ 1
-  pub abandoned_is_taken : (seat stream : ℕ) → Contains (seat_of core seat).abandoned stream → IsTaken core stream
-  pub not_cancelled : (seat other stream : ℕ) → Contains (seat_of core seat).abandoned stream → Contains (seat_of core other).cancelled stream → ⊥
+  pub abandoned_is_taken : (seat stream : ℕ) → Contains (seat_of core seat).abandoned stream
+      → IsTaken core stream
+  pub not_cancelled : (seat other stream : ℕ) → Contains (seat_of core seat).abandoned stream
+      → Contains (seat_of core other).cancelled stream → ⊥
 
 -- ---- the parts
 
 -- the sent parts of a stream are in the list of the seat that took it; they are 0, 1, 2 and so on, and only the final one
 -- may be the last
 pub record SentInOrder (core : Core) : Type 0 where
-  pub by_taker : (seat : ℕ) (part : Part) → Contains (seat_of core seat).sent part → Contains (seat_of core seat).taken part.stream
-  pub in_order : (seat stream place : ℕ) → place < length (sent_parts core seat stream) → (get_or (sent_parts core seat stream) place no_part).number ≡ place
-  pub last_is_final : (seat stream place : ℕ) → place < length (sent_parts core seat stream) → (get_or (sent_parts core seat stream) place no_part).last ≡ true → place + 1 ≡ length (sent_parts core seat stream)
+  pub by_taker : (seat : ℕ) (part : Part) → Contains (seat_of core seat).sent part
+      → Contains (seat_of core seat).taken part.stream
+  pub in_order : (seat stream place : ℕ) → place < length (sent_parts core seat stream)
+      → (get_or (sent_parts core seat stream) place no_part).number ≡ place
+  pub last_is_final : (seat stream place : ℕ) → place < length (sent_parts core seat stream)
+      → (get_or (sent_parts core seat stream) place no_part).last ≡ true
+      → place + 1 ≡ length (sent_parts core seat stream)
 
 pub record SentIsSomewhere (core : Core) : Type 0 where
   -- an item of a back queue with a tag has a sent part, and the queue is that of the stream's poster
-  pub under_way : (engine item : ℕ) → IsArmed core (1 + engine) item → WasSent core (part_in core (1 + engine) item)
-  pub to_poster : (engine item : ℕ) → IsArmed core (1 + engine) item → Contains (seat_of core engine).posted (item_of core (1 + engine) item).tag
+  pub under_way : (engine item : ℕ) → IsArmed core (1 + engine) item
+      → WasSent core (part_in core (1 + engine) item)
+  pub to_poster : (engine item : ℕ) → IsArmed core (1 + engine) item
+      → Contains (seat_of core engine).posted (item_of core (1 + engine) item).tag
   -- a received part is a sent one, and the list is that of the stream's poster
-  pub received : (seat : ℕ) (part : Part) → Contains (seat_of core seat).received part → WasSent core part
-  pub by_poster : (seat : ℕ) (part : Part) → Contains (seat_of core seat).received part → Contains (seat_of core seat).posted part.stream
+  pub received : (seat : ℕ) (part : Part) → Contains (seat_of core seat).received part
+      → WasSent core part
+  pub by_poster : (seat : ℕ) (part : Part) → Contains (seat_of core seat).received part
+      → Contains (seat_of core seat).posted part.stream
   -- a sent part is one of: in one item of a back queue, received once, or taken back, as the final ones of closed streams are
-  pub one_state : (seat : ℕ) (part : Part) → Contains (seat_of core seat).sent part → times_under_way core part.stream part.number + times_received core part.stream part.number + times_withdrawn core part.stream part.number ≡ 1
+  pub one_state : (seat : ℕ) (part : Part) → Contains (seat_of core seat).sent part
+      → times_under_way core part.stream part.number + times_received core part.stream part.number
+      + times_withdrawn core part.stream part.number ≡ 1
   -- a stream is closed at most once, by the seat that took it
   pub closed_once : (stream : ℕ) → by_all closed core stream ≤ 1
-  pub closed_by_taker : (seat stream : ℕ) → Contains (seat_of core seat).closed stream → Contains (seat_of core seat).taken stream
+  pub closed_by_taker : (seat stream : ℕ) → Contains (seat_of core seat).closed stream
+      → Contains (seat_of core seat).taken stream
   -- what a worker holds of a back queue with a tag is the final sent part of that stream, which this worker sent
-  pub held_is_own : (seat engine item : ℕ) → role_of core seat ≡ 1 → (item_of core (1 + engine) item).whereabouts ≡ WithSeat seat → IsArmed core (1 + engine) item → Contains (seat_of core seat).sent (part_in core (1 + engine) item)
-  pub held_is_final : (seat engine item : ℕ) → role_of core seat ≡ 1 → (item_of core (1 + engine) item).whereabouts ≡ WithSeat seat → IsArmed core (1 + engine) item → IsFinal core (part_in core (1 + engine) item)
+  pub held_is_own : (seat engine item : ℕ) → role_of core seat ≡ 1
+      → (item_of core (1 + engine) item).whereabouts ≡ WithSeat seat
+      → IsArmed core (1 + engine) item
+      → Contains (seat_of core seat).sent (part_in core (1 + engine) item)
+  pub held_is_final : (seat engine item : ℕ) → role_of core seat ≡ 1
+      → (item_of core (1 + engine) item).whereabouts ≡ WithSeat seat
+      → IsArmed core (1 + engine) item → IsFinal core (part_in core (1 + engine) item)
 
 -- ---- all of them
 

@@ -32,10 +32,12 @@ abbrev pub SoundAtFirst : Type 0
 SoundAtFirst = (shape : Shape) → IsValid shape → IsSound (opened_core shape)
 
 abbrev pub StepStaysSound : Type 0
-StepStaysSound = (core : Core) (step : Step) → IsSound core → Enabled core step → IsSound (after_step core step)
+StepStaysSound = (core : Core) (step : Step) → IsSound core → Enabled core step
+    → IsSound (after_step core step)
 
 abbrev pub RunStaysSound : Type 0
-RunStaysSound = (core : Core) (steps : List Step) → IsSound core → AllEnabled core steps → IsSound (after_steps core steps)
+RunStaysSound = (core : Core) (steps : List Step) → IsSound core → AllEnabled core steps
+    → IsSound (after_steps core steps)
 
 abbrev pub SoundIsEachPoint : Type 0
 SoundIsEachPoint = (core : Core) → IsSound core ↔ EachPointHolds core
@@ -43,7 +45,8 @@ SoundIsEachPoint = (core : Core) → IsSound core ↔ EachPointHolds core
 -- whatever steps are done from the core as it begins, each enabled in its turn, each point holds
 abbrev pub EachPointAfterEveryRun : Type 0
 EachPointAfterEveryRun =
-    (shape : Shape) (steps : List Step) → IsValid shape → AllEnabled (opened_core shape) steps → EachPointHolds (after_steps (opened_core shape) steps)
+    (shape : Shape) (steps : List Step) → IsValid shape → AllEnabled (opened_core shape) steps
+    → EachPointHolds (after_steps (opened_core shape) steps)
 
 -- so no request is both taken and cancelled, nor either of them twice; no part is received twice, and of each stream at most
 -- one last part is received
@@ -52,4 +55,5 @@ NothingEndsTwice =
     (shape : Shape) (steps : List Step)
     → IsValid shape
     → AllEnabled (opened_core shape) steps
-    → TakenOrCancelled (after_steps (opened_core shape) steps) × ReceivedOnce (after_steps (opened_core shape) steps)
+    → TakenOrCancelled (after_steps (opened_core shape) steps)
+    × ReceivedOnce (after_steps (opened_core shape) steps)

@@ -16,7 +16,10 @@ is_in list core stream = list_any (λ lists. has_stream stream (list lists)) cor
 -- a seat has received its last part and hasn't abandoned it
 abbrev pub is_accepted : Core → ℕ → Bool
 is_accepted core stream =
-    list_any (λ lists. list_any (λ part. part.stream == stream && part.last) lists.received && not (has_stream stream lists.abandoned)) core.seats
+    list_any
+    (λ lists. list_any (λ part. part.stream == stream && part.last) lists.received
+    && not (has_stream stream lists.abandoned))
+    core.seats
 
 abbrev pub is_cancelled : Core → ℕ → Bool
 is_cancelled core stream = is_in cancelled core stream
@@ -31,7 +34,8 @@ is_refused core stream = is_in drawn core stream && not (is_in posted core strea
 -- posted, and none of accepted, cancelled and abandoned
 abbrev pub is_left_open : Core → ℕ → Bool
 is_left_open core stream =
-    is_in posted core stream && not (is_accepted core stream || (is_cancelled core stream || is_abandoned core stream))
+    is_in posted core stream
+    && not (is_accepted core stream || (is_cancelled core stream || is_abandoned core stream))
 
 -- each stream that was drawn is one of these, and of no two
 abbrev pub EachStreamIsOne : Core → Type 0
@@ -39,7 +43,9 @@ EachStreamIsOne core =
     (stream : ℕ)
     → 1 ≤ stream
     → stream < core.next
-    → one_if (is_accepted core stream) + one_if (is_cancelled core stream) + one_if (is_abandoned core stream) + one_if (is_refused core stream) + one_if (is_left_open core stream) ≡ 1
+    → one_if (is_accepted core stream) + one_if (is_cancelled core stream)
+    + one_if (is_abandoned core stream) + one_if (is_refused core stream)
+    + one_if (is_left_open core stream) ≡ 1
 
 -- ---- all streams
 
@@ -54,7 +60,9 @@ entries_in list core = over_all (λ stream. 1) list core.seats
 -- drawn is accepted, cancelled, abandoned, refused and left open, together
 abbrev pub AccountIsWhole : Core → Type 0
 AccountIsWhole core =
-    entries_in drawn core ≡ streams_that is_accepted core + streams_that is_cancelled core + streams_that is_abandoned core + streams_that is_refused core + streams_that is_left_open core
+    entries_in drawn core ≡ streams_that is_accepted core + streams_that is_cancelled core
+    + streams_that is_abandoned core + streams_that is_refused core
+    + streams_that is_left_open core
 
 -- the lists have each stream once: their lengths count streams
 pub record EntriesAreStreams (core : Core) : Type 0 where

@@ -50,16 +50,22 @@ pub record StreamCounts (core : Core) : Type 0 where
   -- and no other was drawn
   pub no_other : (stream : ℕ) → (stream ≡ 0) ⊎ (core.next ≤ stream) → by_all drawn core stream ≡ 0
   -- a seat posts what it drew, as often at most
-  pub posted_by_drawer : (seat stream : ℕ) → by_seat posted core seat stream ≤ by_seat drawn core seat stream
+  pub posted_by_drawer : (seat stream : ℕ)
+      → by_seat posted core seat stream ≤ by_seat drawn core seat stream
   -- a posted stream is a tag in the line's queue, taken, or cancelled
-  pub one_state : (stream : ℕ) → stream ≢ 0 → line_tags core stream + by_all taken core stream + by_all cancelled core stream ≡ by_all posted core stream
+  pub one_state : (stream : ℕ) → stream ≢ 0
+      → line_tags core stream + by_all taken core stream + by_all cancelled core stream
+      ≡ by_all posted core stream
   -- 0 is no stream
   pub no_zero : by_all taken core 0 + by_all cancelled core 0 ≡ by_all posted core 0
   -- a seat cancels what it posted
-  pub cancelled_by_poster : (seat stream : ℕ) → by_seat cancelled core seat stream ≤ by_seat posted core seat stream
+  pub cancelled_by_poster : (seat stream : ℕ)
+      → by_seat cancelled core seat stream ≤ by_seat posted core seat stream
   -- a seat abandons what it posted
-  pub abandoned_by_poster : (seat stream : ℕ) → by_seat abandoned core seat stream ≤ by_seat posted core seat stream
+  pub abandoned_by_poster : (seat stream : ℕ)
+      → by_seat abandoned core seat stream ≤ by_seat posted core seat stream
   -- and what was taken
   pub abandoned_is_taken : (stream : ℕ) → by_all abandoned core stream ≤ by_all taken core stream
   -- the part word of a tagged item of the line's queue is a seat that posted the tag
-  pub part_is_poster : (item : ℕ) → (item_of core 0 item).tag ≢ 0 → 1 ≤ by_seat posted core (item_of core 0 item).part (item_of core 0 item).tag
+  pub part_is_poster : (item : ℕ) → (item_of core 0 item).tag ≢ 0
+      → 1 ≤ by_seat posted core (item_of core 0 item).part (item_of core 0 item).tag

@@ -3,6 +3,7 @@ ghost use Rattle.std.specs.Prelude.{◌≡◌, ◌∷◌, ◌++◌, [], ◌+◌,
 ghost use Rattle.unit_model.specs.Core.{chunk_number};
 ghost use Rattle.unit_model.specs.Effects.{after_step, change_queue, noted, set_all, with_free, with_in_line, with_item, with_note, with_opened, with_owner, with_run_owner, without_first_free, without_first_in_line};
 
+use crate::conditions::chunk_number;
 use crate::machine::{Core, Entry, Item, Note, Owner, Queue, Seat, Sides};
 use crate::runs::Run;
 use std::alloc::AllocError;
@@ -118,7 +119,7 @@ impl Core {
     pub(crate) fn set_run_owner(&mut self, run: Run, owner: Owner)
         ensures { self.new ≡ with_run_owner run owner self.old }
     {
-        let first = 640 * run.segment as usize + run.chunk as usize;
+        let first = chunk_number(run.segment as u32, run.chunk as u32) as usize;
         for i in 0..run.chunk_count() {
             self.owners.replace(first + i as usize, owner);
         }
@@ -128,7 +129,7 @@ impl Core {
     pub(crate) fn set_opened(&mut self, seat: u32, count: u32)
         ensures { self.new ≡ with_opened seat count self.old }
     {
-        if self.role_of(seat) == 0 {
+        if self.role_of(seat).is_engine() {
             self.opened = Sides {
                 out: count,
                 back: self.opened.back,

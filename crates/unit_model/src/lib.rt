@@ -6,39 +6,43 @@
 
 mod conditions;
 mod effects;
-mod holding_laws;
+mod enabled;
+mod laws;
+mod limits;
 mod lines;
+mod looks;
 mod machine;
 mod opening;
 mod runs;
 mod series;
 mod shape;
-mod sound_laws;
 mod steps;
-mod stream_laws;
 mod streams;
 
-pub use holding_laws::{
-    all_is_held_right_at_first, chunks_are_free_at_rest, each_run_holds_right,
-    each_step_holds_right, held_right_is_each_point,
+pub use conditions::{chunk_number, unless};
+pub use enabled::first_unmet;
+pub use laws::{
+    a_core_begins_sound, a_run_stays_sound, a_step_keeps_parts, a_step_keeps_streams,
+    a_step_stays_sound, all_is_held_right_at_first, chunks_are_free_at_rest,
+    each_point_holds_after_every_run, each_role_has_its_own, each_run_holds_right,
+    each_step_holds_right, held_right_is_each_point, lists_are_whole_at_rest, nothing_ends_twice,
+    own_lists_show_the_rest, parts_are_received_in_order, parts_stay_in_order, sound_is_each_point,
+    the_account_is_whole, the_counts_are_the_points, the_counts_hold_at_first,
+};
+pub use limits::{
+    CHUNK_BYTES, LAST_START, MOST_ITEMS, MOST_SEATS, MOST_SEGMENTS, PAST_ITEMS, PLACE_LIMIT,
+    SEGMENT_CHUNKS, STREAM_LIMIT,
 };
 pub use lines::step_line;
+pub use looks::Looks;
 pub use machine::{
-    Core, Entry, Item, Note, Owner, Part, Queue, RunFault, Seat, Sides, Step, StepFault, Unmet,
-    Whereabouts,
+    BLANK, Core, Entry, Item, Note, Owner, Part, Queue, RunFault, Seat, Sides, Step, StepFault,
+    Unmet, Whereabouts,
 };
 pub use runs::{Run, Seen, no_longer_run, run_has_its_chunks};
 pub use series::Series;
-pub use shape::Shape;
-pub use sound_laws::{
-    a_core_begins_sound, a_run_stays_sound, a_step_stays_sound, each_point_holds_after_every_run,
-    nothing_ends_twice, sound_is_each_point,
-};
+pub use shape::{Role, Shape};
 pub use steps::{run_core, step_core};
-pub use stream_laws::{
-    a_step_keeps_parts, a_step_keeps_streams, the_account_is_whole, the_counts_are_the_points,
-    the_counts_hold_at_first,
-};
 pub use unit_types::{Addr, Bytes, Field, Fields, Handlers, Reply, Request};
 
 #[cfg(test)]

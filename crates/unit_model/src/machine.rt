@@ -1,5 +1,8 @@
 //! The core: queues, chunks and seats as one value, and the steps that change it.
+ghost use Rattle.std.specs.Prelude.{◌≡◌};
+ghost use Rattle.unit_model.specs.Core.{owner_code, whereabouts_code};
 
+use crate::limits::PAST_ITEMS;
 use crate::runs::Run;
 use crate::series::Series;
 use crate::shape::Shape;
@@ -15,6 +18,19 @@ pub enum Owner {
     Message(u32, u32),
 }
 
+impl Owner {
+    /// The owner as a number.
+    pub fn code(self) -> u64
+        ensures { result ≡ owner_code self }
+    {
+        match self {
+            Owner::Free => 0,
+            Owner::Seat(seat) => 1 + seat as u64,
+            Owner::Message(queue, item) => 65536 * (1 + queue as u64) + item as u64,
+        }
+    }
+}
+
 /// Where an item of a queue is.
 #[derive(Clone, Copy, Debug, Drop)]
 pub enum Whereabouts {
@@ -24,6 +40,19 @@ pub enum Whereabouts {
     InLine,
     /// With the seat of this number.
     WithSeat(u32),
+}
+
+impl Whereabouts {
+    /// Where the item is, as a number.
+    pub fn code(self) -> u64
+        ensures { result ≡ whereabouts_code self }
+    {
+        match self {
+            Whereabouts::InFreeList => 0,
+            Whereabouts::InLine => PAST_ITEMS,
+            Whereabouts::WithSeat(seat) => 1 + seat as u64,
+        }
+    }
 }
 
 /// An item of a queue: the words that it carries, and where it is.
@@ -40,6 +69,19 @@ pub struct Item {
     /// Where the item is.
     pub whereabouts: Whereabouts,
 }
+
+/// An item that was never used.
+pub const BLANK: Item = Item {
+    tag: 0,
+    stream: 0,
+    run: Run {
+        segment: 0,
+        chunk: 0,
+        size: 0,
+    },
+    part: 0,
+    whereabouts: Whereabouts::InFreeList,
+};
 
 /// An item's place in a list of its queue.
 #[derive(Clone, Copy, Debug, Drop)]

@@ -7,8 +7,8 @@ ghost use Rattle.unit_model.specs.Shapes.{IsValid};
 ghost use Rattle.unit_model.specs.Soundness.{IsSound};
 ghost use Rattle.unit_model.specs.declared.machine.Owner.TheVariants.{Free};
 
-use crate::conditions::BLANK;
-use crate::machine::{Core, Entry, Item, Owner, Queue, Seat, Sides};
+use crate::limits::SEGMENT_CHUNKS;
+use crate::machine::{BLANK, Core, Entry, Item, Owner, Queue, Seat, Sides};
 use crate::series::Series;
 use crate::shape::Shape;
 use std::alloc::{AllocError, Global};
@@ -25,7 +25,8 @@ impl Core {
         ensures held { IfOk result (λ core. IsHeldRight core) }
         ensures sound { IfOk result (λ core. IsSound core) }
     {
-        let chunks = 640 * (shape.out_segments as usize + shape.back_segments as usize);
+        let segments = shape.out_segments as u64 + shape.back_segments as u64;
+        let chunks = (SEGMENT_CHUNKS * segments) as usize;
         let queues = fresh_queues(alloc, shape)?;
         Ok(Core {
             shape: *shape,
@@ -49,7 +50,9 @@ fn free_chunks(alloc: Global, count: usize) -> Result<Series<Owner>, AllocError>
 #[tactic(auto, using(crate::proofs::FirstEntries::one_more_of))]
 fn fresh_queues(alloc: Global, shape: &Shape) -> Result<Vec<Queue>, AllocError>
     requires { IsValid shape.now }
-    ensures { IfOk result (λ queues. queues.items ≡ fresh_queue shape.now.start shape.now.items ∷ replicate shape.now.engines (fresh_queue shape.now.start shape.now.back_items)) }
+    ensures { IfOk result (λ queues. queues.items
+        ≡ fresh_queue shape.now.start shape.now.items
+        ∷ replicate shape.now.engines (fresh_queue shape.now.start shape.now.back_items)) }
 {
     let mut queues = Vec::new(alloc);
     push(&mut queues, fresh_queue(alloc, shape.start, shape.items)?)?;

@@ -5,6 +5,8 @@ ghost use Rattle.unit_model.specs.Weights.{times};
 ghost use Rattle.unit_model.specs.declared.runs.Run.{Run};
 ghost use Rattle.unit_model.specs.declared.runs.Seen.{Seen};
 
+use crate::limits::CHUNK_BYTES;
+
 /// Neighbouring chunks of one segment that hold one message.
 ///
 /// A segment has 640 chunks of 16,384 bytes.
@@ -23,7 +25,7 @@ impl Run {
     pub fn chunk_count(&self) -> u32
         ensures { result ≡ chunks_for self.now.size }
     {
-        self.size.div_ceil(16384)
+        self.size.div_ceil(CHUNK_BYTES)
     }
 }
 
@@ -40,8 +42,12 @@ pub struct Seen {
 /// The chunks of a run are the neighbouring ones from its first one on, each once. This does nothing: its contract is the
 /// law.
 pub fn run_has_its_chunks()
-    ensures inside { (run : Run) (chunk : ℕ) → run.chunk ≤ chunk → chunk < run.chunk + chunks_for run.size → times chunk (chunks_of run) ≡ 1 }
-    ensures outside { (run : Run) (chunk : ℕ) → (chunk < run.chunk) ⊎ (run.chunk + chunks_for run.size ≤ chunk) → times chunk (chunks_of run) ≡ 0 }
+    ensures inside { (run : Run) (chunk : ℕ)
+        → run.chunk ≤ chunk → chunk < run.chunk + chunks_for run.size
+        → times chunk (chunks_of run) ≡ 1 }
+    ensures outside { (run : Run) (chunk : ℕ)
+        → (chunk < run.chunk) ⊎ (run.chunk + chunks_for run.size ≤ chunk)
+        → times chunk (chunks_of run) ≡ 0 }
     ensures count { (run : Run) → length (chunks_of run) ≡ chunks_for run.size }
 {}
 

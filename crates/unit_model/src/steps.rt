@@ -10,6 +10,8 @@ ghost use Rattle.unit_model.specs.StreamCounts.{StreamCounts};
 ghost use Rattle.unit_model.specs.declared.machine.Step.{Step};
 
 use crate::conditions::chunk_number;
+use crate::enabled::first_unmet;
+use crate::looks::Looks;
 use crate::machine::{Core, Entry, Item, Note, Owner, RunFault, Step, StepFault, Whereabouts};
 use crate::streams::part_of;
 use std::alloc::AllocError;
@@ -29,7 +31,7 @@ pub fn step_core(core: &mut Core, step: &Step) -> Result<(), StepFault>
     ensures streams { StreamCounts core.old → StreamCounts core.new }
     ensures sound { IsSound core.old → IsSound core.new }
 {
-    if let Some(unmet) = core.first_unmet(step) {
+    if let Some(unmet) = first_unmet(core, step) {
         return Err(StepFault::NotEnabled {
             rule: unmet.rule,
             want: unmet.want,
@@ -56,7 +58,9 @@ pub fn run_core(core: &mut Core, steps: &[Step]) -> Result<(), RunFault>
     ensures at { IfErr result (λ fault. fault.at < length steps.now) }
     ensures before { IfErr result (λ fault. AllEnabled core.old (take fault.at steps.now)) }
     ensures stopped { IfErr result (λ fault. core.new ≡ after_steps core.old (take fault.at steps.now)) }
-    ensures cause { IfErr result (λ fault. (step : Step) → slice_get steps.now fault.at ≡ Some step → IsFaultOf (first_unmet core.new step) fault.fault) }
+    ensures cause { IfErr result (λ fault. (step : Step)
+        → slice_get steps.now fault.at ≡ Some step
+        → IsFaultOf (first_unmet core.new step) fault.fault) }
     ensures held { IsHeldRight core.old → IsHeldRight core.new }
     ensures streams { StreamCounts core.old → StreamCounts core.new }
     ensures sound { IsSound core.old → IsSound core.new }
@@ -186,7 +190,10 @@ impl Core {
     }
 
     fn get_item(&mut self, seat: u32, queue: u32, item: u32)
-        ensures { self.new ≡ with_item queue item (record (item_of self.old queue item) { whereabouts = Whereabouts.WithSeat seat }) (without_first_free queue self.old) }
+        ensures { self.new
+            ≡ with_item queue item
+            (record (item_of self.old queue item) { whereabouts = Whereabouts.WithSeat seat })
+            (without_first_free queue self.old) }
     {
         let old = self.item_of(queue, item);
         self.drop_first_free(queue);
@@ -198,7 +205,10 @@ impl Core {
     }
 
     fn pop(&mut self, seat: u32, queue: u32, item: u32)
-        ensures { self.new ≡ with_item queue item (record (item_of self.old queue item) { whereabouts = Whereabouts.WithSeat seat }) (without_first_in_line queue self.old) }
+        ensures { self.new
+            ≡ with_item queue item
+            (record (item_of self.old queue item) { whereabouts = Whereabouts.WithSeat seat })
+            (without_first_in_line queue self.old) }
     {
         let old = self.item_of(queue, item);
         self.drop_first_in_line(queue);
@@ -211,7 +221,10 @@ impl Core {
 
     fn push(&mut self, queue: u32, item: u32, place: u64) -> Result<(), AllocError>
         requires { place < 2 ^ 63 }
-        ensures done { OnOk result (self.new ≡ with_item queue item (record (item_of self.old queue item) { whereabouts = Whereabouts.InLine }) (with_in_line queue (record { place = place; item = item }) self.old)) }
+        ensures done { OnOk result (self.new
+            ≡ with_item queue item
+            (record (item_of self.old queue item) { whereabouts = Whereabouts.InLine })
+            (with_in_line queue (record { place = place; item = item }) self.old)) }
         ensures kept { OnErr result (self.new ≡ self.old) }
     {
         let old = self.item_of(queue, item);
@@ -226,7 +239,10 @@ impl Core {
 
     fn give_item(&mut self, queue: u32, item: u32, place: u64) -> Result<(), AllocError>
         requires { place < 2 ^ 63 }
-        ensures done { OnOk result (self.new ≡ with_item queue item (record (item_of self.old queue item) { whereabouts = Whereabouts.InFreeList }) (with_free queue (record { place = place; item = item }) self.old)) }
+        ensures done { OnOk result (self.new
+            ≡ with_item queue item
+            (record (item_of self.old queue item) { whereabouts = Whereabouts.InFreeList })
+            (with_free queue (record { place = place; item = item }) self.old)) }
         ensures kept { OnErr result (self.new ≡ self.old) }
     {
         let old = self.item_of(queue, item);
@@ -241,7 +257,8 @@ impl Core {
 
     #[tactic(auto, unfolding(crate::specs::Effects::after_step))]
     fn arm(&mut self, seat: u32, queue: u32, item: u32, stream: u64) -> Result<(), AllocError>
-        ensures done { OnOk result (self.new ≡ after_step self.old (Step.Arm seat queue item stream)) }
+        ensures done { OnOk result (self.new
+            ≡ after_step self.old (Step.Arm seat queue item stream)) }
         ensures kept { OnErr result (self.new ≡ self.old) }
     {
         let old = self.item_of(queue, item);
@@ -258,11 +275,12 @@ impl Core {
 
     #[tactic(auto, unfolding(crate::specs::Effects::after_step))]
     fn settle(&mut self, seat: u32, queue: u32, item: u32, stream: u64) -> Result<(), AllocError>
-        ensures done { OnOk result (self.new ≡ after_step self.old (Step.Settle seat queue item stream)) }
+        ensures done { OnOk result (self.new
+            ≡ after_step self.old (Step.Settle seat queue item stream)) }
         ensures kept { OnErr result (self.new ≡ self.old) }
     {
         let old = self.item_of(queue, item);
-        let is_engine = self.role_of(seat) == 0;
+        let is_engine = self.role_of(seat).is_engine();
         self.note(seat, settled_note(is_engine, queue, stream, &old))?;
         self.set_item(queue, item, Item { tag: 0, ..old });
         self.set_run_owner(old.run, Owner::Seat(seat));

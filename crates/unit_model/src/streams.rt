@@ -5,7 +5,8 @@ ghost use Rattle.unit_model.specs.Conditions.{conditions_of, first_of, first_unm
 ghost use Rattle.unit_model.specs.Core.{is_last_in, item_of, number_in, queue_of, seat_of, whereabouts_code};
 ghost use Rattle.unit_model.specs.Weights.{weigh};
 
-use crate::conditions::{unless, whereabouts_code};
+use crate::conditions::unless;
+use crate::looks::Looks;
 use crate::machine::{Core, Item, Part, Seat, Unmet};
 
 pub(crate) fn has_stream(stream: u64, streams: &[u64]) -> bool
@@ -28,7 +29,8 @@ fn parts_in(stream: u64, parts: &[Part]) -> u64
 
 // Whether the seats sent this number of parts of the stream.
 fn is_sent(seats: &[Seat], stream: u64, number: u64) -> bool
-    ensures { result ≡ (number == weigh (λ lists. count_by (λ part. part.stream == stream) lists.sent) seats.now) }
+    ensures { result
+        ≡ (number == weigh (λ lists. count_by (λ part. part.stream == stream) lists.sent) seats.now) }
 {
     match seats {
         [] => number == 0,
@@ -64,64 +66,70 @@ fn has_part(part: &Part, parts: &[Part]) -> bool
     parts.iter().any(|other| is_same_part(part, other))
 }
 
-// Whether an item of this tag is where this code says.
-fn has_held(code: u64, tag: u64, items: &[Item]) -> bool
-    ensures { result ≡ list_any (λ item. whereabouts_code item.whereabouts == code && item.tag == tag) items.now }
-{
-    items.iter().any(|item| whereabouts_code(item.whereabouts) == code && item.tag == tag)
-}
-
 // What a seat's lists have.
 impl Core {
     fn has_drawn(&self, seat: u32, stream: u64) -> bool
         ensures { result ≡ has_stream stream (seat_of self.now seat).drawn }
     {
-        let seats = self.seats.as_slice();
-        (seat as usize) < seats.len() && has_stream(stream, seats[seat as usize].drawn.as_slice())
+        match self.seat(seat) {
+            Some(lists) => has_stream(stream, lists.drawn.as_slice()),
+            None => false,
+        }
     }
 
     fn has_posted(&self, seat: u32, stream: u64) -> bool
         ensures { result ≡ has_stream stream (seat_of self.now seat).posted }
     {
-        let seats = self.seats.as_slice();
-        (seat as usize) < seats.len() && has_stream(stream, seats[seat as usize].posted.as_slice())
+        match self.seat(seat) {
+            Some(lists) => has_stream(stream, lists.posted.as_slice()),
+            None => false,
+        }
     }
 
     fn has_taken(&self, seat: u32, stream: u64) -> bool
         ensures { result ≡ has_stream stream (seat_of self.now seat).taken }
     {
-        let seats = self.seats.as_slice();
-        (seat as usize) < seats.len() && has_stream(stream, seats[seat as usize].taken.as_slice())
+        match self.seat(seat) {
+            Some(lists) => has_stream(stream, lists.taken.as_slice()),
+            None => false,
+        }
     }
 
     fn has_cancelled(&self, seat: u32, stream: u64) -> bool
         ensures { result ≡ has_stream stream (seat_of self.now seat).cancelled }
     {
-        let seats = self.seats.as_slice();
-        (seat as usize) < seats.len()
-            && has_stream(stream, seats[seat as usize].cancelled.as_slice())
+        match self.seat(seat) {
+            Some(lists) => has_stream(stream, lists.cancelled.as_slice()),
+            None => false,
+        }
     }
 
     fn has_abandoned(&self, seat: u32, stream: u64) -> bool
         ensures { result ≡ has_stream stream (seat_of self.now seat).abandoned }
     {
-        let seats = self.seats.as_slice();
-        (seat as usize) < seats.len()
-            && has_stream(stream, seats[seat as usize].abandoned.as_slice())
+        match self.seat(seat) {
+            Some(lists) => has_stream(stream, lists.abandoned.as_slice()),
+            None => false,
+        }
     }
 
     fn has_received_last(&self, seat: u32, stream: u64) -> bool
-        ensures { result ≡ list_any (λ part. part.stream == stream && part.last) (seat_of self.now seat).received }
+        ensures { result
+            ≡ list_any (λ part. part.stream == stream && part.last) (seat_of self.now seat).received }
     {
-        let seats = self.seats.as_slice();
-        (seat as usize) < seats.len() && has_last(stream, seats[seat as usize].received.as_slice())
+        match self.seat(seat) {
+            Some(lists) => has_last(stream, lists.received.as_slice()),
+            None => false,
+        }
     }
 
     fn has_sent(&self, seat: u32, part: &Part) -> bool
         ensures { result ≡ list_any (is_same_part part.now) (seat_of self.now seat).sent }
     {
-        let seats = self.seats.as_slice();
-        (seat as usize) < seats.len() && has_part(part, seats[seat as usize].sent.as_slice())
+        match self.seat(seat) {
+            Some(lists) => has_part(part, lists.sent.as_slice()),
+            None => false,
+        }
     }
 
     fn is_taken(&self, stream: u64) -> bool
@@ -150,20 +158,6 @@ impl Core {
             .iter()
             .any(|lists| has_last(stream, lists.sent.as_slice()))
     }
-
-    fn holds_tagged(&self, seat: u32, queue: u32, stream: u64) -> bool
-        ensures { result ≡ holds_tagged self.now seat queue stream }
-    {
-        let queues = self.queues.as_slice();
-        if queue as usize >= queues.len() {
-            return false;
-        }
-        has_held(
-            1 + seat as u64,
-            stream,
-            queues[queue as usize].items.as_slice(),
-        )
-    }
 }
 
 // The conditions.
@@ -191,7 +185,7 @@ impl Core {
     }
 
     #[tactic(auto, unfolding(crate::specs::Conditions::may_arm))]
-    pub(crate) fn may_arm(&self, seat: u32, queue: u32, item: u32, stream: u64) -> Option<Unmet>
+    pub(crate) fn arm_unmet(&self, seat: u32, queue: u32, item: u32, stream: u64) -> Option<Unmet>
         ensures { result ≡ may_arm self.now seat queue item stream }
     {
         if queue == 0 {
@@ -204,7 +198,7 @@ impl Core {
     fn may_win_request(&self, seat: u32, queue: u32, item: u32, stream: u64) -> bool
         ensures { result ≡ may_win_request self.now seat queue item stream }
     {
-        if self.role_of(seat) == 0 {
+        if self.role_of(seat).is_engine() {
             self.has_posted(seat, stream)
         } else {
             self.holds(seat, queue, item)
@@ -217,7 +211,7 @@ impl Core {
         if !self.holds(seat, queue, item) {
             return false;
         }
-        if self.role_of(seat) == 0 {
+        if self.role_of(seat).is_engine() {
             queue as u64 == 1 + seat as u64
         } else {
             let part = part_of(stream, &self.item_of(queue, item));
@@ -226,7 +220,13 @@ impl Core {
     }
 
     #[tactic(auto, unfolding(crate::specs::Conditions::may_settle))]
-    pub(crate) fn may_settle(&self, seat: u32, queue: u32, item: u32, stream: u64) -> Option<Unmet>
+    pub(crate) fn settle_unmet(
+        &self,
+        seat: u32,
+        queue: u32,
+        item: u32,
+        stream: u64,
+    ) -> Option<Unmet>
         ensures { result ≡ may_settle self.now seat queue item stream }
     {
         let may_win = if queue == 0 {
@@ -238,7 +238,7 @@ impl Core {
     }
 
     #[tactic(auto, unfolding(crate::specs::Conditions::may_abandon))]
-    pub(crate) fn may_abandon(&self, seat: u32, stream: u64) -> Option<Unmet>
+    pub(crate) fn abandon_unmet(&self, seat: u32, stream: u64) -> Option<Unmet>
         ensures { result ≡ may_abandon self.now seat stream }
     {
         let is_posted = self.has_posted(seat, stream) && self.is_taken(stream);

@@ -1,8 +1,9 @@
 use Rattle.std.proofs.Common.{◌^◌, ◌-◌, arith}
+use Rattle.unit_model.specs.Conditions.{eleventh_of}
 use Rattle.unit_model.proofs.MetConditions.{open_below}
 use Rattle.unit_model.proofs.machine.Core.open_next.Goals as goal
 
 pub overflow_add-count : goal.overflow_add-count
 overflow_add-count c =
-    let below = open_below c.args.self.now c.args.seat c.args.count (2 ^ 32 - 1) c.requires (omega arith) (omega arith) in
+    let below = open_below c.args.self.now (eleventh_of c.args.self.now) c.args.seat c.args.count (2 ^ 32 - 1) c.requires (omega arith) (omega arith) in
     omega (arith, below)

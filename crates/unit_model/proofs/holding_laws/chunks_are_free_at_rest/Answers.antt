@@ -1,5 +1,0 @@
-use Rattle.unit_model.proofs.HeldSound.{all_free_at_rest}
-use Rattle.unit_model.proofs.holding_laws.chunks_are_free_at_rest.Goals as goal
-
-pub returns : goal.returns
-returns c = all_free_at_rest

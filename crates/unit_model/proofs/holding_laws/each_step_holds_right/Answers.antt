@@ -1,5 +1,0 @@
-use Rattle.unit_model.proofs.HeldSteps.{step_holds_right}
-use Rattle.unit_model.proofs.holding_laws.each_step_holds_right.Goals as goal
-
-pub returns : goal.returns
-returns c = step_holds_right

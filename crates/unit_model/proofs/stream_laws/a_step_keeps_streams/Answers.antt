@@ -1,5 +1,0 @@
-use Rattle.unit_model.proofs.StreamLaw.{keeps}
-use Rattle.unit_model.proofs.stream_laws.a_step_keeps_streams.Goals as goal
-
-pub returns : goal.returns
-returns c core step old enabled = keeps core step old enabled
