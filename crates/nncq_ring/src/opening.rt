@@ -15,7 +15,8 @@ pub const ENTRIES: usize = 48;
 // The entry of value 0 at the last place before the start that has this slot.
 fn first_entry(size: u64, start: u64, slot: u64) -> u64
     requires { (slot < size) × (size ≤ start) }
-    ensures { (place : ℕ) → place < start → start ≤ place + size → place % size ≡ slot → result ≡ place / size * size }
+    ensures { (place : ℕ) → place < start → start ≤ place + size → place % size ≡ slot
+        → result ≡ place / size * size }
 {
     let turn = start - start % size;
     if slot < start % size {
@@ -28,7 +29,8 @@ fn first_entry(size: u64, start: u64, slot: u64) -> u64
 /// The words of an empty ring.
 pub fn first_words(alloc: Global, size: u32, start: u64) -> Result<Vec<u64>, AllocError>
     requires { (1 ≤ size) × (size ≤ 16384) × (size ≤ start) }
-    ensures { IfOk result (λ words. (length words.items ≡ size + 48) × Fresh size start 16 words.items) }
+    ensures { IfOk result (λ words. (length words.items ≡ size + 48)
+        × Fresh size start 16 words.items) }
 {
     let mut words = vec![in alloc; 0u64; ENTRIES]?;
     words[HEAD] = start;
