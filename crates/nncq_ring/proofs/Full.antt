@@ -1,5 +1,7 @@
 -- A ring that starts full.
-use Rattle.std.proofs.Common.{ℕ, zero, suc, ◌+◌, ◌-◌, ◌/◌, ◌%◌, ◌≡◌, ◌≤◌, ◌<◌, List, [], ◌∷◌, ◌++◌, refl, ap, ap₂, ◌∙◌, subst, arith}
+use Rattle.std.proofs.Common.{ℕ, zero, suc, ◌+◌, ◌-◌, ◌*◌, ◌/◌, ◌%◌, ◌≡◌, ◌≤◌, ◌<◌, inl, inr, List, [], ◌∷◌, ◌++◌, refl, sym, ap, ap₂, ◌∙◌, subst, arith, div-add-mod', mod-lt, suc-mul}
+use Rattle.std.proofs.lemmas.Bool.{cases_lt}
+use Rattle.atomic_table.proofs.Lists.{one_turn}
 use Rattle.std.proofs.lemmas.Nat.{div-mul-add, mod-mul-add}
 use Rattle.unit_model.specs.Weights.{weigh, below}
 use Rattle.unit_model.proofs.Weights.{weigh_push}
@@ -49,3 +51,26 @@ module _ (n start : ℕ) (w : Words) (pos : 0 < n) (turned : n ≤ start) (full 
 pub full_weighs : (f : ℕ → ℕ) (start k : ℕ) → weigh (λ (e : ℕ × ℕ). f e.1) (full_line start k) ≡ below f k
 full_weighs f start zero = refl
 full_weighs f start (suc k) = omega (arith, weigh_push (λ (e : ℕ × ℕ). f e.1) (full_line start k) (start + k, k), full_weighs f start k)
+
+-- ---- its first entries
+
+same_turn : (n start v w : ℕ) → v < n → w < n → (start + v) % n ≡ (start + w) % n → v ≡ w
+same_turn n start v w low low' same =
+    elim (cases_lt v w) [
+      | inl lt ↦ let one : start + v ≡ start + w = one_turn (start + v) (start + w) n (omega (arith, lt)) (omega (arith, low')) same in omega (arith, one)
+      | inr le ↦ let one : start + w ≡ start + v = one_turn (start + w) (start + v) n (omega (arith, le)) (omega (arith, low)) (sym same) in omega (arith, one)
+    ]
+
+-- the value whose place has a slot that is below the start's, or isn't
+pub full_low : (n start slot value : ℕ) → 0 < n → slot < start % n → value < n → (start + value) % n ≡ slot → value ≡ slot + n - start % n
+full_low n start slot value pos low lt is =
+    let r : start % n < n = mod-lt start pos in
+    let whole : start + (slot + n - start % n) ≡ suc (start / n) * n + slot = omega (arith, div-add-mod' start n, suc-mul (start / n) n, low, r) in
+    let at : (start + (slot + n - start % n)) % n ≡ slot = ap (λ (m : ℕ). m % n) whole ∙ mod-mul-add (suc (start / n)) n slot (omega (arith, low, r)) in
+    same_turn n start value (slot + n - start % n) lt (omega (arith, low, r)) (is ∙ sym at)
+
+pub full_high : (n start slot value : ℕ) → start % n ≤ slot → slot < n → value < n → (start + value) % n ≡ slot → value ≡ slot - start % n
+full_high n start slot value le within lt is =
+    let whole : start + (slot - start % n) ≡ start / n * n + slot = omega (arith, div-add-mod' start n, le) in
+    let at : (start + (slot - start % n)) % n ≡ slot = ap (λ (m : ℕ). m % n) whole ∙ mod-mul-add (start / n) n slot within in
+    same_turn n start value (slot - start % n) lt (omega (arith, within)) (is ∙ sym at)

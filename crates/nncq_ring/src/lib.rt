@@ -27,6 +27,7 @@ pub use laws::{
     head_may_be_taken, notes_stay_true, parts_step, same_words_stay, tail_may_be_helped,
     there_is_room, won_entry_exchange, won_head_exchange, won_tail_exchange,
 };
+pub use opening::{first_entry, full_entry};
 pub use ring::Ring;
 pub use rule_laws::{
     a_ring_is_fresh_until_a_push, each_number_is_in_one_place, places_are_used_in_order,

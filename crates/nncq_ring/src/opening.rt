@@ -1,6 +1,7 @@
 //! The words of a ring that was just made.
-ghost use Rattle.std.specs.Prelude.{◌≡◌, ◌≤◌, ◌<◌, ◌+◌, ◌*◌, ◌/◌, ◌%◌, ℕ, length, IfOk};
+ghost use Rattle.std.specs.Prelude.{◌≡◌, ◌≤◌, ◌<◌, ◌+◌, ◌*◌, ◌/◌, ◌%◌, ◌^◌, ℕ, length, IfOk};
 ghost use Rattle.nncq_ring.specs.RingWords.{Fresh};
+ghost use Rattle.nncq_ring.specs.Words.{entry_of};
 
 use std::alloc::{AllocError, Global};
 
@@ -12,8 +13,8 @@ pub const TAIL: usize = 32;
 
 pub const ENTRIES: usize = 48;
 
-// The entry of value 0 at the last place before the start that has this slot.
-fn first_entry(size: u64, start: u64, slot: u64) -> u64
+/// The first entry of a slot of an empty ring: that of value 0 at the last place before the start that has this slot.
+pub fn first_entry(size: u64, start: u64, slot: u64) -> u64
     requires { (slot < size) × (size ≤ start) }
     ensures { (place : ℕ) → place < start → start ≤ place + size → place % size ≡ slot
         → result ≡ place / size * size }
@@ -23,6 +24,30 @@ fn first_entry(size: u64, start: u64, slot: u64) -> u64
         turn
     } else {
         turn - size
+    }
+}
+
+// The entry of a value at the place so many places behind the start.
+fn entry_behind(size: u64, start: u64, value: u64) -> u64
+    requires { (1 ≤ size) × (start < 2 ^ 62) × (value < 2 ^ 62) }
+    ensures { result ≡ entry_of size (start + value) value }
+{
+    let place = start + value;
+    place - place % size + value
+}
+
+/// The first entry of a slot of a ring that starts full: that of the value whose place, so many places behind the start, has
+/// this slot.
+pub fn full_entry(size: u64, start: u64, slot: u64) -> u64
+    requires { (slot < size) × (size ≤ start) × (start < 2 ^ 62) }
+    ensures { (value : ℕ) → value < size → (start + value) % size ≡ slot
+        → result ≡ entry_of size (start + value) value }
+{
+    let begin = start % size;
+    if slot < begin {
+        entry_behind(size, start, slot + size - begin)
+    } else {
+        entry_behind(size, start, slot - begin)
     }
 }
 

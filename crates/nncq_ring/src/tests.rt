@@ -62,6 +62,17 @@ fn the_second_value_stands_at_the_second_place(rt: HostRuntime) -> Result<(), Al
 }
 
 #[test]
+fn a_ring_of_four_starts_full(rt: HostRuntime) {
+    let entries = [
+        full_entry(4, 6, 2),
+        full_entry(4, 6, 3),
+        full_entry(4, 6, 0),
+        full_entry(4, 6, 1),
+    ];
+    assert_eq!(rt; entries, [4, 5, 10, 11]);
+}
+
+#[test]
 fn a_number_that_was_passed_is_pushed_by_the_other_seat(rt: HostRuntime) -> Result<(), AllocError> {
     let (ring, mut seat) = Ring::open(rt.alloc(), 4, 4)?;
     let mut other = ring.split(&mut seat);
