@@ -8,17 +8,16 @@ use Rattle.unit_model.specs.Runs.{HasNoRun, IsSeenFree}
 use Rattle.unit_model.specs.declared.runs.Seen.{Seen}
 use Rattle.unit_model.specs.Weights.{one_if}
 use Rattle.unit_model.proofs.Weights.{is_number_some}
-use Rattle.chunk_map.specs.declared.view.MapEvent.TheVariants.{SawOpen, SawWord}
-use Rattle.chunk_map.specs.declared.view.MapView.{MapView}
-use Rattle.chunk_map.specs.Gains.{gained, tried, SameSearch}
+use Rattle.chunk_map.specs.declared.view.MapEvent.TheVariants.{SawWord}
+use Rattle.chunk_map.specs.declared.view.MapEvent.{MapEvent}
+use Rattle.chunk_map.specs.Gains.{gained, tried, more, SameSearch}
 use Rattle.chunk_map.specs.Looks.{was_gained, was_looked, seen_free, may_be_free}
 use Rattle.chunk_map.specs.Runs.{AreFree, NoneBelow}
 use Rattle.chunk_map.specs.Search.{bit_of, AllSet, NoneSet}
-use Rattle.chunk_map.specs.Seats.{Shows, ShowsSegment}
-use Rattle.chunk_map.specs.Views.{after}
+use Rattle.chunk_map.specs.Showing.{Shows, ShowsSegment}
 use Rattle.chunk_map.specs.Words.{is_free}
 use Rattle.chunk_map.proofs.BitLists.{none_behind}
-use Rattle.chunk_map.proofs.GainLaws.{seen_inside, seen_outside, search_on, search_tried, tried_held, tried_missed, tried_inside, tried_outside, tried_gained}
+use Rattle.chunk_map.proofs.GainLaws.{seen_inside, seen_outside, search_on, search_tried, tried_missed, tried_inside, tried_outside, tried_gained}
 
 -- a test that passed
 pub passed : (x n : ℕ) → (x == n) ≡ true → x ≡ n
@@ -30,21 +29,21 @@ or_none false = refl
 
 -- ---- a word is looked at
 
-pub seen_word : (v : MapView) (number found chunk : ℕ) → chunk / 64 ≡ number → was_gained v.log chunk ≡ false → seen_free (after (SawWord number found) v).log chunk ≡ (bit_at found (chunk % 64) == 1)
+pub seen_word : (v : List MapEvent) (number found chunk : ℕ) → chunk / 64 ≡ number → was_gained v chunk ≡ false → seen_free (more (SawWord number found) v) chunk ≡ (bit_at found (chunk % 64) == 1)
 seen_word v number found chunk here never =
-    ap (λ (b : Bool). if b then (bit_at found (chunk % 64) == 1 || was_gained v.log chunk) else seen_free v.log chunk) (eq-eqb (chunk / 64) number here)
+    ap (λ (b : Bool). if b then (bit_at found (chunk % 64) == 1 || was_gained v chunk) else seen_free v chunk) (eq-eqb (chunk / 64) number here)
     ∙ ap (λ (b : Bool). bit_at found (chunk % 64) == 1 || b) never
     ∙ or_none (bit_at found (chunk % 64) == 1)
 
-pub seen_elsewhere : (v : MapView) (number found chunk : ℕ) → chunk / 64 ≢ number → seen_free (after (SawWord number found) v).log chunk ≡ seen_free v.log chunk
-seen_elsewhere v number found chunk differs = ap (λ (b : Bool). if b then (bit_at found (chunk % 64) == 1 || was_gained v.log chunk) else seen_free v.log chunk) (ne_eqb (chunk / 64) number differs)
+pub seen_elsewhere : (v : List MapEvent) (number found chunk : ℕ) → chunk / 64 ≢ number → seen_free (more (SawWord number found) v) chunk ≡ seen_free v chunk
+seen_elsewhere v number found chunk differs = ap (λ (b : Bool). if b then (bit_at found (chunk % 64) == 1 || was_gained v chunk) else seen_free v chunk) (ne_eqb (chunk / 64) number differs)
 
 -- the words so far show the looks so far
-pub shows_look : (words : List ℕ) (v : MapView) (segment number found : ℕ) → number < length words → number < 10
-    → ((chunk : ℕ) → chunk / 640 ≡ segment → chunk / 64 < 10 * segment + number → is_free (slice_index words) (chunk - 640 * segment) ≡ seen_free v.log chunk)
-    → ((chunk : ℕ) → 640 * segment ≤ chunk → was_gained v.log chunk ≡ false)
+pub shows_look : (words : List ℕ) (v : List MapEvent) (segment number found : ℕ) → number < length words → number < 10
+    → ((chunk : ℕ) → chunk / 640 ≡ segment → chunk / 64 < 10 * segment + number → is_free (slice_index words) (chunk - 640 * segment) ≡ seen_free v chunk)
+    → ((chunk : ℕ) → 640 * segment ≤ chunk → was_gained v chunk ≡ false)
     → (chunk : ℕ) → chunk / 640 ≡ segment → chunk / 64 < 10 * segment + (number + 1)
-    → is_free (slice_index (set words number found)) (chunk - 640 * segment) ≡ seen_free (after (SawWord (10 * segment + number) found) v).log chunk
+    → is_free (slice_index (set words number found)) (chunk - 640 * segment) ≡ seen_free (more (SawWord (10 * segment + number) found) v) chunk
 shows_look words v segment number found lt below_10 shows never chunk within below =
     elim (cases_eq (chunk / 64) (10 * segment + number)) [
       | inl same ↦
@@ -63,7 +62,7 @@ shows_look words v segment number found lt below_10 shows never chunk within bel
 -- ---- chunks are gained, or tried
 
 -- chunks that were seen free are so when they are gained
-pub gained_same : (v : MapView) (first n : ℕ) → ((i : ℕ) → i < n → seen_free v.log (first + i) ≡ true) → (chunk : ℕ) → seen_free (gained first n v).log chunk ≡ seen_free v.log chunk
+pub gained_same : (v : List MapEvent) (first n : ℕ) → ((i : ℕ) → i < n → seen_free v (first + i) ≡ true) → (chunk : ℕ) → seen_free (gained more first n v) chunk ≡ seen_free v chunk
 gained_same v first n free chunk =
     ⊎_elim
     (λ before. seen_outside first n v chunk (inl before))
@@ -71,13 +70,13 @@ gained_same v first n free chunk =
     (λ inside.
     let same : first + (chunk - first) ≡ chunk = omega (arith, from) in
     let lt : chunk - first < n = omega (arith, from, inside) in
-    subst (λ (k : ℕ). seen_free (gained first n v).log k ≡ seen_free v.log k) same (seen_inside first n (chunk - first) v lt ∙ sym (free (chunk - first) lt)))
+    subst (λ (k : ℕ). seen_free (gained more first n v) k ≡ seen_free v k) same (seen_inside first n (chunk - first) v lt ∙ sym (free (chunk - first) lt)))
     (λ behind. seen_outside first n v chunk (inr behind))
     (cases_lt chunk (first + n)))
     (cases_lt chunk first)
 
 -- a try changes the look at the chunk that it missed
-pub tried_same : (v : MapView) (first n : ℕ) → ((i : ℕ) → i < n → seen_free v.log (first + i) ≡ true) → (chunk : ℕ) → chunk ≢ first + n → seen_free (tried first n v).log chunk ≡ seen_free v.log chunk
+pub tried_same : (v : List MapEvent) (first n : ℕ) → ((i : ℕ) → i < n → seen_free v (first + i) ≡ true) → (chunk : ℕ) → chunk ≢ first + n → seen_free (tried more first n v) chunk ≡ seen_free v chunk
 tried_same v first n free chunk ne =
     ⊎_elim
     (λ before. tried_outside first n v chunk (inl before))
@@ -85,20 +84,20 @@ tried_same v first n free chunk ne =
     (λ inside.
     let same : first + (chunk - first) ≡ chunk = omega (arith, from) in
     let lt : chunk - first < n = omega (arith, from, inside) in
-    subst (λ (k : ℕ). seen_free (tried first n v).log k ≡ seen_free v.log k) same (tried_inside first n (chunk - first) v lt ∙ sym (free (chunk - first) lt)))
+    subst (λ (k : ℕ). seen_free (tried more first n v) k ≡ seen_free v k) same (tried_inside first n (chunk - first) v lt ∙ sym (free (chunk - first) lt)))
     (λ behind. tried_outside first n v chunk (inr (omega (arith, behind, ne))))
     (cases_lt chunk (first + n)))
     (cases_lt chunk first)
 
-shows_tried : (segment : ℕ) (words words' : List ℕ) (v : MapView) (first n place : ℕ) → ((i : ℕ) → i < n → seen_free v.log (first + i) ≡ true) → was_gained v.log (first + n) ≡ false
+shows_tried : (segment : ℕ) (words words' : List ℕ) (v : List MapEvent) (first n place : ℕ) → ((i : ℕ) → i < n → seen_free v (first + i) ≡ true) → was_gained v (first + n) ≡ false
     → first + n ≡ 640 * segment + place
     → is_free (slice_index words') place ≡ false → ((other : ℕ) → other ≢ place → is_free (slice_index words') other ≡ is_free (slice_index words) other)
-    → ShowsSegment segment words v → ShowsSegment segment words' (tried first n v)
+    → ShowsSegment segment words v → ShowsSegment segment words' (tried more first n v)
 shows_tried segment words words' v first n place free never missed here others shows chunk within =
     elim (cases_eq chunk (first + n)) [
       | inl is ↦
           let at : chunk - 640 * segment ≡ place = omega (arith, is, missed) in
-          ap (is_free (slice_index words')) at ∙ here ∙ sym (ap (seen_free (tried first n v).log) is ∙ tried_missed first n v never)
+          ap (is_free (slice_index words')) at ∙ here ∙ sym (ap (seen_free (tried more first n v)) is ∙ tried_missed first n v never)
       | inr ne ↦
           others (chunk - 640 * segment) (λ is. absurd (ne (omega (arith, is, missed, within)))) ∙ shows chunk within ∙ sym (tried_same v first n free chunk ne)
     ]
@@ -107,15 +106,14 @@ shows_tried segment words words' v first n place free never missed here others s
 
 -- What holds when all runs that begin before `from` are ruled out. `starts` has a bit for each chunk from which so many are
 -- free by the looks, which `words` shows.
-pub record Trying (before v : MapView) (words starts : List ℕ) (segment count from : ℕ) : Type 0 where
-  pub held : v.held ≡ before.held
+pub record Trying (before v : List MapEvent) (words starts : List ℕ) (segment count from : ℕ) : Type 0 where
   pub search : SameSearch before v
-  pub looked : (chunk : ℕ) → chunk / 640 ≡ segment → was_looked v.log chunk ≡ true
-  pub fresh : (chunk : ℕ) → 640 * segment + from ≤ chunk → was_gained v.log chunk ≡ false
+  pub looked : (chunk : ℕ) → chunk / 640 ≡ segment → was_looked v chunk ≡ true
+  pub fresh : (chunk : ℕ) → 640 * segment + from ≤ chunk → was_gained v chunk ≡ false
   pub shows : ShowsSegment segment words v
-  pub elsewhere : (chunk : ℕ) → chunk / 640 ≢ segment → seen_free v.log chunk ≡ seen_free before.log chunk
-  pub marked : (place : ℕ) → from ≤ place → (bit_of starts place ≡ 1) ↔ AreFree (seen_free v.log) count segment place
-  pub none : NoneBelow (seen_free v.log) count segment from
+  pub elsewhere : (chunk : ℕ) → chunk / 640 ≢ segment → seen_free v chunk ≡ seen_free before chunk
+  pub marked : (place : ℕ) → from ≤ place → (bit_of starts place ≡ 1) ↔ AreFree (seen_free v) count segment place
+  pub none : NoneBelow (seen_free v) count segment from
 
 start_fits : (words : List ℕ) (first count : ℕ) → length words ≡ 10 → 1 ≤ count → AllSet words first count → first + count ≤ 640
 start_fits words first count long some_count all =
@@ -125,9 +123,9 @@ start_fits words first count long some_count all =
     (cases_lt (first + (count - 1)) 640)
 
 -- at first the bits are those of the segment's words
-pub starts_first : (words starts : List ℕ) (v : MapView) (segment count : ℕ) → length words ≡ 10 → 1 ≤ count → ShowsSegment segment words v
+pub starts_first : (words starts : List ℕ) (v : List MapEvent) (segment count : ℕ) → length words ≡ 10 → 1 ≤ count → ShowsSegment segment words v
     → ((place : ℕ) → (bit_of starts place ≡ 1) ↔ AllSet words place count)
-    → (place : ℕ) → (bit_of starts place ≡ 1) ↔ AreFree (seen_free v.log) count segment place
+    → (place : ℕ) → (bit_of starts place ≡ 1) ↔ AreFree (seen_free v) count segment place
 starts_first words starts v segment count long some_count shows runs place = (
   λ one.
       let all = (runs place).0 one in
@@ -136,40 +134,39 @@ starts_first words starts v segment count long some_count shows runs place = (
   λ free. (runs place).1 (λ i lt. passed (bit_of words (place + i)) 1 (sym (same (place + i) (omega (arith, lt, free.0))) ∙ free.1 i lt)),
 )
   where
-    same : (chunk : ℕ) → chunk < 640 → seen_free v.log (640 * segment + chunk) ≡ (bit_of words chunk == 1)
+    same : (chunk : ℕ) → chunk < 640 → seen_free v (640 * segment + chunk) ≡ (bit_of words chunk == 1)
     same chunk lt =
         let at : 640 * segment + chunk - 640 * segment ≡ chunk = omega arith in
         sym (shows (640 * segment + chunk) (omega (arith, lt))) ∙ ap (is_free (slice_index words)) at
 
-module _ (before v : MapView) (words starts : List ℕ) (segment count from : ℕ) (trying : Trying before v words starts segment count from) where
+module _ (before v : List MapEvent) (words starts : List ℕ) (segment count from : ℕ) (trying : Trying before v words starts segment count from) where
   -- no run begins before a place up to which no start is set
-  pub none_here : (to : ℕ) → NoneSet starts from to → NoneBelow (seen_free v.log) count segment to
+  pub none_here : (to : ℕ) → NoneSet starts from to → NoneBelow (seen_free v) count segment to
   none_here to none_set chunk below free =
       ⊎_elim
       (λ earlier. trying.none chunk earlier free)
       (λ later. absurd (omega (arith, none_set chunk later below, (trying.marked chunk later).1 free)))
       (cases_lt chunk from)
 
-  free_chunk : (first : ℕ) → AreFree (seen_free v.log) count segment first → (i : ℕ) → i < count → seen_free v.log (640 * segment + first + i) ≡ true
-  free_chunk first free i lt = let same : 640 * segment + first + i ≡ 640 * segment + (first + i) = omega arith in ap (seen_free v.log) same ∙ free.1 i lt
+  free_chunk : (first : ℕ) → AreFree (seen_free v) count segment first → (i : ℕ) → i < count → seen_free v (640 * segment + first + i) ≡ true
+  free_chunk first free i lt = let same : 640 * segment + first + i ≡ 640 * segment + (first + i) = omega arith in ap (seen_free v) same ∙ free.1 i lt
 
   -- a run that is gained changes no look
-  pub run_same : (first : ℕ) → AreFree (seen_free v.log) count segment first → (chunk : ℕ) → seen_free (gained (640 * segment + first) count v).log chunk ≡ seen_free v.log chunk
+  pub run_same : (first : ℕ) → AreFree (seen_free v) count segment first → (chunk : ℕ) → seen_free (gained more (640 * segment + first) count v) chunk ≡ seen_free v chunk
   run_same first free = gained_same v (640 * segment + first) count (free_chunk first free)
 
-  pub tried_on : (first : ℕ) (words' : List ℕ) (n : ℕ) → n < count → from ≤ first → AreFree (seen_free v.log) count segment first → NoneSet starts from first
+  pub tried_on : (first : ℕ) (words' : List ℕ) (n : ℕ) → n < count → from ≤ first → AreFree (seen_free v) count segment first → NoneSet starts from first
       → is_free (slice_index words') (first + n) ≡ false
       → ((other : ℕ) → other ≢ first + n → is_free (slice_index words') other ≡ is_free (slice_index words) other)
-      → Trying before (tried (640 * segment + first) n v) words' starts segment count (first + n + 1)
+      → Trying before (tried more (640 * segment + first) n v) words' starts segment count (first + n + 1)
   tried_on first words' n fewer later free none_set here others = record {
-    held = tried_held (640 * segment + first) n v ∙ trying.held;
-    search = search_on before v (tried (640 * segment + first) n v) trying.search (search_tried (640 * segment + first) n v);
+    search = search_on before v (tried more (640 * segment + first) n v) trying.search (search_tried (640 * segment + first) n v);
     looked = λ chunk is. (search_tried (640 * segment + first) n v).looked chunk (trying.looked chunk is);
     fresh = λ chunk from_there. tried_gained (640 * segment + first) n v chunk (inr (omega (arith, from_there))) ∙ trying.fresh chunk (omega (arith, from_there, later));
     shows = shows_tried segment words words' v (640 * segment + first) n (first + n) inside never (omega arith) here others trying.shows;
     elsewhere = λ chunk ne. same chunk (λ is. ne (omega (arith, is, fewer, free.0))) ∙ trying.elsewhere chunk ne;
     marked = λ place from_there.
-        let still_so : (i : ℕ) → seen_free (tried (640 * segment + first) n v).log (640 * segment + (place + i)) ≡ seen_free v.log (640 * segment + (place + i)) = λ i. same (640 * segment + (place + i)) (λ is. absurd (omega (arith, is, from_there))) in
+        let still_so : (i : ℕ) → seen_free (tried more (640 * segment + first) n v) (640 * segment + (place + i)) ≡ seen_free v (640 * segment + (place + i)) = λ i. same (640 * segment + (place + i)) (λ is. absurd (omega (arith, is, from_there))) in
         let earlier = trying.marked place (omega (arith, from_there, later)) in (
           λ one. let was = earlier.0 one in (was.0, λ i lt. still_so i ∙ was.1 i lt),
           λ now. earlier.1 (now.0, λ i lt. sym (still_so i) ∙ now.1 i lt),
@@ -178,33 +175,33 @@ module _ (before v : MapView) (words starts : List ℕ) (segment count from : �
         (λ earlier. none_here first none_set chunk earlier (now.0, λ i lt. still (640 * segment + (chunk + i)) (now.1 i lt)))
         (λ at_or_behind.
         let missed : 640 * segment + (chunk + (first + n - chunk)) ≡ 640 * segment + first + n = omega (arith, at_or_behind, below) in
-        clash (sym (now.1 (first + n - chunk) (omega (arith, at_or_behind, fewer))) ∙ ap (seen_free (tried (640 * segment + first) n v).log) missed ∙ tried_missed (640 * segment + first) n v never))
+        clash (sym (now.1 (first + n - chunk) (omega (arith, at_or_behind, fewer))) ∙ ap (seen_free (tried more (640 * segment + first) n v)) missed ∙ tried_missed (640 * segment + first) n v never))
         (cases_lt chunk first);
   }
     where
-      inside : (i : ℕ) → i < n → seen_free v.log (640 * segment + first + i) ≡ true
+      inside : (i : ℕ) → i < n → seen_free v (640 * segment + first + i) ≡ true
       inside i lt = free_chunk first free i (omega (arith, lt, fewer))
 
-      never : was_gained v.log (640 * segment + first + n) ≡ false
+      never : was_gained v (640 * segment + first + n) ≡ false
       never = trying.fresh (640 * segment + first + n) (omega (arith, later))
 
-      same : (chunk : ℕ) → chunk ≢ 640 * segment + first + n → seen_free (tried (640 * segment + first) n v).log chunk ≡ seen_free v.log chunk
+      same : (chunk : ℕ) → chunk ≢ 640 * segment + first + n → seen_free (tried more (640 * segment + first) n v) chunk ≡ seen_free v chunk
       same = tried_same v (640 * segment + first) n inside
 
       clash : true ≡ false → ⊥
       clash is = absurd (omega (arith, ap one_if is))
 
-      still : (chunk : ℕ) → seen_free (tried (640 * segment + first) n v).log chunk ≡ true → seen_free v.log chunk ≡ true
+      still : (chunk : ℕ) → seen_free (tried more (640 * segment + first) n v) chunk ≡ true → seen_free v chunk ≡ true
       still chunk now = ⊎_elim
-          (λ is. absurd (clash (sym now ∙ ap (seen_free (tried (640 * segment + first) n v).log) is ∙ tried_missed (640 * segment + first) n v never)))
+          (λ is. absurd (clash (sym now ∙ ap (seen_free (tried more (640 * segment + first) n v)) is ∙ tried_missed (640 * segment + first) n v never)))
           (λ ne. sym (same chunk ne) ∙ now)
           (cases_eq chunk (640 * segment + first + n))
 
 -- ---- the search over segments
 
 -- the words of all segments show the looks, once those of one more segment are noted
-pub shows_noted : (seen seen' words : List ℕ) (v : MapView) (segment : ℕ)
-    → ((chunk : ℕ) → chunk < 5120 → chunk / 640 ≢ segment → is_free (slice_index seen) chunk ≡ seen_free v.log chunk)
+pub shows_noted : (seen seen' words : List ℕ) (v : List MapEvent) (segment : ℕ)
+    → ((chunk : ℕ) → chunk < 5120 → chunk / 640 ≢ segment → is_free (slice_index seen) chunk ≡ seen_free v chunk)
     → ((number : ℕ) → number < 10 → slice_index seen' (10 * segment + number) ≡ slice_index words number)
     → ((number : ℕ) → number / 10 ≢ segment → slice_index seen' number ≡ slice_index seen number)
     → ShowsSegment segment words v → Shows seen' v
@@ -226,18 +223,18 @@ pub none_free : (words : List ℕ) → ((number : ℕ) → slice_index words num
 none_free words none chunk = ne_eqb (bit_at (slice_index words (chunk / 64)) (chunk % 64)) 1 (λ one. absurd (omega (arith, one, ap (λ x. bit_at x (chunk % 64)) (none (chunk / 64)), bit_at-zero (chunk % 64))))
 
 -- where all chunks of the segment were looked at, none seen free, so none that the looks allow
-pub none_allowed : (v : MapView) (n segment first : ℕ) → ((chunk : ℕ) → chunk / 640 ≡ segment → was_looked v.log chunk ≡ true) → NoneBelow (seen_free v.log) n segment first → NoneBelow (may_be_free v.log) n segment first
+pub none_allowed : (v : List MapEvent) (n segment first : ℕ) → ((chunk : ℕ) → chunk / 640 ≡ segment → was_looked v chunk ≡ true) → NoneBelow (seen_free v) n segment first → NoneBelow (may_be_free v) n segment first
 none_allowed v n segment first looked none chunk below free = none chunk below (
   free.0,
   λ i within.
       let place : ℕ = 640 * segment + (chunk + i) in
       let was = looked place (omega (arith, within, free.0)) in
-      sym (ap (λ (b : Bool). not b || seen_free v.log place) was) ∙ free.1 i within,
+      sym (ap (λ (b : Bool). not b || seen_free v place) was) ∙ free.1 i within,
 )
 
 -- other segments stay
-pub none_stays : (v v' : MapView) (n segment other first : ℕ) → other ≢ segment → ((chunk : ℕ) → chunk / 640 ≢ segment → seen_free v'.log chunk ≡ seen_free v.log chunk)
-    → NoneBelow (seen_free v.log) n other first → NoneBelow (seen_free v'.log) n other first
+pub none_stays : (v v' : List MapEvent) (n segment other first : ℕ) → other ≢ segment → ((chunk : ℕ) → chunk / 640 ≢ segment → seen_free v' chunk ≡ seen_free v chunk)
+    → NoneBelow (seen_free v) n other first → NoneBelow (seen_free v') n other first
 none_stays v v' n segment other first ne same none chunk below free =
     none chunk below (
       free.0,
@@ -248,7 +245,7 @@ none_stays v v' n segment other first ne same none chunk below free =
     )
 
 -- no run by the looks, so none by the words of the answer
-pub no_run : (seen : Seen) (v : MapView) (n : ℕ) → 1 ≤ n → seen.segments ≤ 8 → Shows seen.words v → ((segment : ℕ) → segment < seen.segments → NoneBelow (seen_free v.log) n segment 640) → HasNoRun seen n
+pub no_run : (seen : Seen) (v : List MapEvent) (n : ℕ) → 1 ≤ n → seen.segments ≤ 8 → Shows seen.words v → ((segment : ℕ) → segment < seen.segments → NoneBelow (seen_free v) n segment 640) → HasNoRun seen n
 no_run seen v n some_chunk few shows none segment first lt fits all =
     none segment lt first (omega (arith, some_chunk, fits)) (fits, λ i below. sym (shows (640 * segment + (first + i)) (omega (arith, below, fits, lt, few))) ∙ free (first + i) (omega (arith, below, fits)) (all i below))
   where

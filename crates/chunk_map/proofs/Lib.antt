@@ -1,8 +1,11 @@
 pub mod Numbers
 pub mod BitLists
+pub mod Bits
 pub mod FreeChunks
 pub mod OpenSegments
-mod MapSteps
-mod GainLaws
-mod WordChanges
-mod ClaimLaws
+pub mod Stepping
+pub mod GainLaws
+pub mod WordChanges
+pub mod ClaimLaws
+pub mod Claiming
+mod LastWords

@@ -1,6 +1,7 @@
 pub mod Words
 pub mod Parts
 pub mod Looks
+pub mod Showing
 pub mod Views
 pub mod Runs
 pub mod Search
@@ -8,3 +9,4 @@ pub mod Gains
 pub mod Rule
 pub mod Seats
 pub mod Claims
+pub mod Ends

@@ -65,3 +65,9 @@ Searched opened before (Missed chunk ∷ events) = Searched opened before events
 Searched opened before (Released chunk ∷ events) = Searched opened before events
 Searched opened before (OpenedTo count ∷ events) = ⊥
 Searched opened before (FoundOpen count ∷ events) = ⊥
+
+-- a search among so many open segments has begun, and has looked at no chunk yet
+pub record Begins (opened : ℕ) (log : List MapEvent) : Type 0 where
+  pub count : open_seen log ≡ opened
+  pub gained : (chunk : ℕ) → was_gained log chunk ≡ false
+  pub seen : (chunk : ℕ) → seen_free log chunk ≡ false

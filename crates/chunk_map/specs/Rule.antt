@@ -5,9 +5,9 @@ use Rattle.std.specs.Int.{bit_at, bit_not, w64}
 use Rattle.atomic_table.specs.Table.{State, Me, Step}
 use Rattle.unit_model.specs.Sharing.{Owned}
 use Rattle.chunk_map.specs.Parts.{OpenPart, OpeningsCounted}
-use Rattle.chunk_map.specs.Views.{held_by, open_noted, openings_of, after, with_chunk, without_chunk, opening}
+use Rattle.chunk_map.specs.Views.{held_by, open_noted, openings_of, after, does, opening}
 use Rattle.chunk_map.specs.Words.{free_weight}
-use Rattle.chunk_map.specs.declared.view.MapEvent.TheVariants.{SawOpen, SawWord, Missed}
+use Rattle.chunk_map.specs.declared.view.MapEvent.TheVariants.{SawOpen, SawWord, Gained, Missed, Released}
 use Rattle.chunk_map.specs.declared.view.MapView.{MapView}
 
 -- where the map's word stands in the table, and back
@@ -31,21 +31,21 @@ pub record MapHolds {S : Type 0} (segments : ℕ) (s : State S MapView) : Type 0
 
 -- the number of open segments was loaded
 abbrev pub SeesOpen : {S : Type 0} → Step S → Me S MapView → ℕ → Me S MapView → Type 0
-SeesOpen st m found m' = (m'.1 ≡ m.1) × (m'.0 ≡ after (SawOpen found) m.0) × (1 ≤ found) × (open_noted m.0 ≤ found) × (found ≤ m.0.segments)
+SeesOpen st m found m' = (m'.1 ≡ m.1) × (m'.0 ≡ does (SawOpen found) m.0) × (1 ≤ found) × (open_noted m.0 ≤ found) × (found ≤ m.0.segments)
 
 -- a word of the map was loaded
 abbrev pub SeesWord : {S : Type 0} → Step S → Me S MapView → ℕ → Me S MapView → Type 0
-SeesWord st m found m' = (m'.1 ≡ m.1) × (m'.0 ≡ after (SawWord (word_number st.word) found) m.0)
+SeesWord st m found m' = (m'.1 ≡ m.1) × (m'.0 ≡ does (SawWord (word_number st.word) found) m.0)
 
 -- a bit was cleared: the chunk is gained where the bit was set, and missed where it wasn't
 abbrev pub TakesBit : {S : Type 0} → Step S → Me S MapView → ℕ → Me S MapView → Type 0
 TakesBit st m found m' = (m'.1 ≡ m.1) × ((bit : ℕ) → bit < 64 → st.first ≡ bit_not w64 (1 * 2 ^ bit % 2 ^ 64)
-    → ((bit_at found bit ≡ 1) × (m'.0 ≡ with_chunk (64 * word_number st.word + bit) m.0))
-    ⊎ ((bit_at found bit ≡ 0) × (m'.0 ≡ after (Missed (64 * word_number st.word + bit)) m.0)))
+    → ((bit_at found bit ≡ 1) × (m'.0 ≡ does (Gained (64 * word_number st.word + bit)) m.0))
+    ⊎ ((bit_at found bit ≡ 0) × (m'.0 ≡ does (Missed (64 * word_number st.word + bit)) m.0)))
 
 -- a bit was set: the chunk is given back
 abbrev pub FreesBit : {S : Type 0} → Step S → Me S MapView → ℕ → Me S MapView → Type 0
-FreesBit st m found m' = (m'.1 ≡ m.1) × ((bit : ℕ) → bit < 64 → st.first ≡ 1 * 2 ^ bit % 2 ^ 64 → m'.0 ≡ without_chunk (64 * word_number st.word + bit) m.0)
+FreesBit st m found m' = (m'.1 ≡ m.1) × ((bit : ℕ) → bit < 64 → st.first ≡ 1 * 2 ^ bit % 2 ^ 64 → m'.0 ≡ does (Released (64 * word_number st.word + bit)) m.0)
 
 -- the number of open segments was exchanged, or another one found
 abbrev pub OpensOne : {S : Type 0} → Step S → Me S MapView → ℕ → Me S MapView → Type 0

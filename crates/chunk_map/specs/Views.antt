@@ -1,6 +1,9 @@
 -- What a seat knows: the chunks that it holds, by their numbers over all segments, and what it did, newest first.
-use Rattle.std.specs.Prelude.{ℕ, ◌==◌, [], ◌∷◌, cond, ◌+◌, ◌++◌}
-use Rattle.unit_model.specs.Weights.{weigh, without_first}
+use Rattle.std.specs.Prelude.{ℕ, ◌≡◌, ◌<◌, ◌==◌, List, [], ◌∷◌, cond, ◌+◌, ◌++◌}
+use Rattle.std.proofs.lemmas.Bool.{eqb-true}
+use mathlib.Core.Path.{ap}
+use Rattle.unit_model.specs.Weights.{weigh, is_number, without_first}
+use Rattle.unit_model.proofs.Weights.{weigh-without_first}
 use Rattle.chunk_map.specs.Looks.{open_seen}
 use Rattle.chunk_map.specs.declared.view.MapEvent.{MapEvent}
 use Rattle.chunk_map.specs.declared.view.MapEvent.TheVariants.{SawOpen, SawWord, Gained, Missed, Released, OpenedTo, FoundOpen}
@@ -45,6 +48,24 @@ with_chunk chunk v = record { segments = v.segments; held = chunk ∷ v.held; lo
 -- the chunk given back
 abbrev pub without_chunk : ℕ → MapView → MapView
 without_chunk chunk v = record { segments = v.segments; held = without_first (λ other. other == chunk) v.held; log = Released chunk ∷ v.log; joined = v.joined }
+
+-- a chunk that is gained is held, and one that is given back isn't
+abbrev pub held_after : MapEvent → List ℕ → List ℕ
+held_after (SawOpen count) held = held
+held_after (SawWord number found) held = held
+held_after (Gained chunk) held = chunk ∷ held
+held_after (Missed chunk) held = held
+held_after (Released chunk) held = without_first (λ other. other == chunk) held
+held_after (OpenedTo count) held = held
+held_after (FoundOpen count) held = held
+
+-- what an event makes of a view
+abbrev pub does : MapEvent → MapView → MapView
+does e v = record { segments = v.segments; held = held_after e v.held; log = e ∷ v.log; joined = v.joined }
+
+-- what is held without one chunk that is held
+pub frees_one : (f : ℕ → ℕ) (chunk : ℕ) (chunks : List ℕ) → 0 < weigh (is_number chunk) chunks → weigh f (without_first (λ other. other == chunk) chunks) + f chunk ≡ weigh f chunks
+frees_one f chunk chunks mine = weigh-without_first f (λ other. other == chunk) (f chunk) (λ other is. ap f (eqb-true other chunk is)) chunks mine
 
 -- what an exchange of the open word tells that would take it from one number to another, and found this one
 abbrev pub opening : ℕ → ℕ → ℕ → MapEvent

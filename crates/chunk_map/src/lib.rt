@@ -1,25 +1,33 @@
 //! A map of free chunks in words that several threads change by single atomic steps: a bit that is set is a free chunk, and
 //! who clears it has the chunk. A segment has 640 chunks; segments are opened on demand, the lowest ones first.
 //!
-//! `ChunkMap` has a table of its own. The laws stand in public modules that name no table (`Words`, `Parts`), so that a table
+//! `ChunkMap` has a table of its own. The search for a run is written once, over the single steps of a map (`MapSteps`), and the
+//! laws stand in public modules that name no table (`Words`, `Parts`), so that a table
 //! with more words in it can be ruled by the same parts.
 #![tactic(auto)]
 
 mod claim;
+mod closing;
 mod laws;
 mod map;
+mod map_steps;
 mod search;
+mod searching;
 mod seat;
+mod single;
 mod view;
 
-pub use claim::{Claim, Opened};
+pub use claim::Opened;
+pub use closing::ClosedMap;
 pub use laws::{
     closed_segments_are_free, each_chunk_is_in_one_place, each_segment_is_opened_once,
     free_weight_falls, free_weight_rises, free_weight_stays, open_part_steps,
 };
 pub use map::ChunkMap;
 pub use search::{first_from, run_starts};
+pub use searching::{Claim, claim_among, claim_run, give_back};
 pub use seat::MapSeat;
+pub use single::MapSteps;
 pub use view::{MapEvent, MapView};
 
 #[cfg(test)]

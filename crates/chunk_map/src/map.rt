@@ -82,22 +82,27 @@ impl Join<MapView> for Together {
 /// A map of up to 8 segments with 640 chunks of 16,384 bytes each. One segment is open at first.
 #[derive(Drop)]
 pub struct ChunkMap {
-    table: Table<u8, MapView, u32, MapRule, Global>,
+    pub(crate) table: Table<u8, MapView, u32, MapRule, Global>,
     pub(crate) segments: u32,
-    ghost sized: { (table.shared.key ≡ segments) × (table.shared.table_id.words ≡ 16 * (segments + 1)) × (1 ≤ segments) × (segments ≤ 8) },
+    ghost sized: { (table.shared.key ≡ segments)
+        × (table.shared.table_id.words ≡ 16 * (segments + 1)) × (1 ≤ segments) × (segments ≤ 8)
+        × (table.shared.table_id.slots ≡ 0) },
 }
 
 impl ChunkMap {
     ghost use Rattle.std.specs.Int.{bit_at};
     ghost use Rattle.chunk_map.specs.Looks.{open_seen};
-    ghost use Rattle.chunk_map.specs.Views.{empty, together, after, with_chunk, without_chunk, opening};
+    ghost use Rattle.chunk_map.specs.Views.{empty, together, after, does, opening};
     ghost use Rattle.chunk_map.specs.Seats.{BelongsTo, HoldsChunk, knows};
-    ghost use Rattle.chunk_map.specs.declared.view.MapEvent.TheVariants.{SawOpen, SawWord, Missed};
+    ghost use Rattle.chunk_map.specs.declared.view.MapEvent.TheVariants.{SawOpen, SawWord, Gained, Missed, Released};
 
     /// A map whose chunks are all free, with one segment open, and a seat that holds none.
+    ///
+    /// Fails for want of memory alone.
     pub fn open(alloc: Global, segments: u32) -> Result<(ChunkMap, MapSeat), AllocError>
         requires { (1 ≤ segments) × (segments ≤ 8) }
-        ensures { IfOk result (λ r. (r.0.segments ≡ segments) × BelongsTo r.1 r.0 × (knows r.1 ≡ empty segments)) }
+        ensures { IfOk result (λ r. (r.0.segments ≡ segments) × BelongsTo r.1 r.0
+            × (knows r.1 ≡ empty segments)) }
     {
         let mut words = vec![in alloc; u64::MAX; 16 * (segments as usize + 1)]?;
         words[0] = 1;
@@ -133,11 +138,12 @@ impl ChunkMap {
     }
 
     // How many segments are open.
-    pub(crate) fn see_open(&self, seat: &mut MapSeat) -> u64
+    pub(crate) fn load_open(&self, seat: &mut MapSeat) -> u64
         requires own { BelongsTo seat.old self.now }
         ensures own { BelongsTo seat.new self.now }
-        ensures count { (1 ≤ result) × (open_seen (knows seat.old).log ≤ result) × (result ≤ self.now.segments) }
-        ensures view { knows seat.new ≡ after (SawOpen result) (knows seat.old) }
+        ensures count { (1 ≤ result) × (open_seen (knows seat.old).log ≤ result)
+            × (result ≤ self.now.segments) }
+        ensures view { knows seat.new ≡ does (SawOpen result) (knows seat.old) }
     {
         let table = &self.table;
         let shared = &table.shared;
@@ -145,11 +151,11 @@ impl ChunkMap {
     }
 
     // A word of the map.
-    pub(crate) fn see_word(&self, seat: &mut MapSeat, number: usize) -> u64
+    pub(crate) fn load_word(&self, seat: &mut MapSeat, number: usize) -> u64
         requires own { BelongsTo seat.old self.now }
         requires number { number < 10 * self.now.segments }
         ensures own { BelongsTo seat.new self.now }
-        ensures view { knows seat.new ≡ after (SawWord number result) (knows seat.old) }
+        ensures view { knows seat.new ≡ does (SawWord number result) (knows seat.old) }
     {
         let table = &self.table;
         let shared = &table.shared;
@@ -163,8 +169,10 @@ impl ChunkMap {
         requires bit { bit < 64 }
         requires open { number / 10 < open_seen (knows seat.old).log }
         ensures own { BelongsTo seat.new self.now }
-        ensures gained { IsTrue result → knows seat.new ≡ with_chunk (64 * number + bit) (knows seat.old) }
-        ensures missed { IsFalse result → knows seat.new ≡ after (Missed (64 * number + bit)) (knows seat.old) }
+        ensures gained { IsTrue result
+            → knows seat.new ≡ does (Gained (64 * number + bit)) (knows seat.old) }
+        ensures missed { IsFalse result
+            → knows seat.new ≡ does (Missed (64 * number + bit)) (knows seat.old) }
     {
         let table = &self.table;
         let shared = &table.shared;
@@ -180,7 +188,7 @@ impl ChunkMap {
         requires bit { bit < 64 }
         requires held { HoldsChunk seat.old (64 * number + bit) }
         ensures own { BelongsTo seat.new self.now }
-        ensures view { knows seat.new ≡ without_chunk (64 * number + bit) (knows seat.old) }
+        ensures view { knows seat.new ≡ does (Released (64 * number + bit)) (knows seat.old) }
     {
         let table = &self.table;
         let shared = &table.shared;
@@ -196,7 +204,8 @@ impl ChunkMap {
         requires own { BelongsTo seat.old self.now }
         requires count { (1 ≤ count) × (count < self.now.segments) }
         ensures own { BelongsTo seat.new self.now }
-        ensures count { (1 ≤ result) × (open_seen (knows seat.old).log ≤ result) × (result ≤ self.now.segments) }
+        ensures count { (1 ≤ result) × (open_seen (knows seat.old).log ≤ result)
+            × (result ≤ self.now.segments) }
         ensures view { knows seat.new ≡ after (opening count (count + 1) result) (knows seat.old) }
     {
         let table = &self.table;

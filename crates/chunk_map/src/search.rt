@@ -31,7 +31,8 @@ fn moved(words: &[u64; WORDS], by: usize, number: usize) -> u64
 // The bits that are set both where they are and so many places up.
 fn both(starts: &[u64; WORDS], by: usize) -> [u64; WORDS]
     requires { by < 640 }
-    ensures { (place : ℕ) → bit_of result place ≡ min (bit_of starts.now place) (bit_of starts.now (place + by)) }
+    ensures { (place : ℕ)
+        → bit_of result place ≡ min (bit_of starts.now place) (bit_of starts.now (place + by)) }
 {
     let mut out = *starts;
     for number in 0..WORDS {
@@ -58,7 +59,8 @@ pub fn run_starts(words: &[u64; WORDS], count: usize) -> [u64; WORDS]
 
 /// The first set bit from a place on, of ten words taken as 640 bits.
 pub fn first_from(words: &[u64; WORDS], from: usize) -> Option<usize>
-    ensures some { IfSome result (λ place. (from ≤ place) × (place < 640) × (bit_of words.now place ≡ 1) × NoneSet words.now from place) }
+    ensures some { IfSome result (λ place. (from ≤ place) × (place < 640)
+        × (bit_of words.now place ≡ 1) × NoneSet words.now from place) }
     ensures none { IfNone result (NoneSet words.now from 640) }
 {
     let mut at = from;

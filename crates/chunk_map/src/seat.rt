@@ -10,5 +10,6 @@ use atomic_table::Seat;
 #[derive(Drop)]
 pub struct MapSeat {
     pub(crate) seat: Seat<u8, MapView>,
-    ghost sound: { (seat.me.1 ≡ []) × ((chunk : ℕ) → Holds held_by chunk seat.me.0 → chunk < 640 * seat.me.0.segments) },
+    ghost sound: { (seat.me.1 ≡ [])
+        × ((chunk : ℕ) → Holds held_by chunk seat.me.0 → chunk < 640 * seat.me.0.segments) },
 }

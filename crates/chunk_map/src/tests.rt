@@ -59,6 +59,7 @@ fn a_second_segment_is_opened(rt: HostRuntime) -> Result<(), AllocError> {
     assert_eq!(rt; map.open_more(&mut seat), Opened::Yes(2));
     assert_eq!(rt; run_of(map.claim_run(&mut seat, 1)), run(1, 0, 1));
     assert_eq!(rt; map.open_more(&mut seat), Opened::AllOpen(2));
+    assert_eq!(rt; map.close(seat).open_count(), 2);
     Ok(())
 }
 

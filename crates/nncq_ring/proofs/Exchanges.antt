@@ -1,5 +1,5 @@
 -- What an exchange that is won does to the line.
-use Rattle.std.proofs.Common.{ℕ, zero, suc, ◌+◌, ◌-◌, ◌/◌, ◌%◌, ◌≡◌, ◌≢◌, ◌≤◌, ◌<◌, ◌==◌, ◌⊎◌, inl, inr, ⊎_elim, Bool, cond, List, [], ◌∷◌, ◌++◌, refl, sym, ap, ap₂, ◌∙◌, subst, arith, mod-lt}
+use Rattle.std.proofs.Common.{ℕ, zero, suc, ◌+◌, ◌-◌, ◌/◌, ◌%◌, ◌≡◌, ◌≢◌, ◌≤◌, ◌<◌, ◌==◌, ◌⊎◌, inl, inr, ⊎_elim, Bool, cond, List, [], ◌∷◌, ◌++◌, length, refl, sym, ap, ap₂, ◌∙◌, subst, arith, mod-lt}
 use Rattle.std.proofs.lemmas.Nat.{div-mul-add, mod-mul-add}
 use Rattle.std.proofs.lemmas.Bool.{eq-eqb, ne_eqb, cases_eq, cases_lt}
 use Rattle.nncq_ring.specs.Words.{Words, entry_of, logical_tail, IsWellFormed, places, line_of, SetsEntry, SetsTail, SetsHead}
@@ -18,16 +18,20 @@ tail_cases n w = ⊎_elim (λ is. inr (tail_full n w is)) (λ ne. inl (tail_open
 
 -- ---- lists of places
 
-places_same : (n : ℕ) (entry entry' : ℕ → ℕ) (from k : ℕ) → ((p : ℕ) → from ≤ p → p < from + k → entry' (p % n) ≡ entry (p % n)) → places n entry' from k ≡ places n entry from k
+pub places_same : (n : ℕ) (entry entry' : ℕ → ℕ) (from k : ℕ) → ((p : ℕ) → from ≤ p → p < from + k → entry' (p % n) ≡ entry (p % n)) → places n entry' from k ≡ places n entry from k
 places_same n entry entry' from zero same = refl
 places_same n entry entry' from (suc k) same =
     ap₂ (λ (x : ℕ) (rest : List (ℕ × ℕ)). (from, x % n) ∷ rest) (same from (omega arith) (omega arith)) (places_same n entry entry' (suc from) k (λ p low high. same p (omega (arith, low)) (omega (arith, high))))
 
-places_last : (n : ℕ) (entry : ℕ → ℕ) (from k : ℕ) → places n entry from (suc k) ≡ places n entry from k ++ (from + k, entry ((from + k) % n) % n) ∷ []
+pub places_last : (n : ℕ) (entry : ℕ → ℕ) (from k : ℕ) → places n entry from (suc k) ≡ places n entry from k ++ (from + k, entry ((from + k) % n) % n) ∷ []
 places_last n entry from zero = let same : from ≡ from + 0 = omega arith in ap (λ (p : ℕ). (p, entry (p % n) % n) ∷ []) same
 places_last n entry from (suc k) =
     let same : suc from + k ≡ from + suc k = omega arith in
     ap (λ (rest : List (ℕ × ℕ)). (from, entry (from % n) % n) ∷ rest) (places_last n entry (suc from) k ∙ ap (λ (p : ℕ). places n entry (suc from) k ++ (p, entry (p % n) % n) ∷ []) same)
+
+pub places_long : (n : ℕ) (entry : ℕ → ℕ) (from k : ℕ) → length (places n entry from k) ≡ k
+places_long n entry from zero = refl
+places_long n entry from (suc k) = ap suc (places_long n entry (suc from) k)
 
 -- ---- what an entry's cycle says of the logical tail
 

@@ -83,7 +83,7 @@ may_take n h x w is has noted =
     let here : w.entry (w.head % n) ≡ x = ap (λ (m : ℕ). w.entry (m % n)) is ∙ there in
     (here, ap (λ (m : ℕ). m / n) here ∙ has ∙ ap (λ (m : ℕ). m / n) (sym is))
 
-pub starts : (n : ℕ) (w : Words) → 0 < n → n ≤ w.head → w.tail ≡ w.head → ((p : ℕ) → p < w.head → w.head ≤ p + n → w.entry (p % n) / n ≡ p / n) → IsWellFormed n w × (line_of n w ≡ [])
+pub starts : (n : ℕ) (w : Words) → 0 < n → n ≤ w.head → w.tail ≡ w.head → ((p : ℕ) → p < w.head → w.head ≤ p + n → w.entry (p % n) / n ≡ p / n) → IsWellFormed n w × (line_of n w ≡ []) × (logical_tail n w ≡ w.head)
 starts n w pos turned same filled =
     let p : ℕ = w.head - n in
     let turn : p + n ≡ w.head = omega (arith, turned) in
@@ -99,6 +99,7 @@ starts n w pos turned same filled =
         cycles = λ q lt near. filled q (omega (arith, lt, next)) (omega (arith, near, next));
       },
       no_places n w next,
+      next,
     )
 
 pub look_noted : (n place : ℕ) (w : Words) → IsWellFormed n w → EntryNoted n w place (w.entry (place % n))

@@ -37,8 +37,9 @@ module _ (n offset : ℕ) (words : List ℕ) (wide : offset + 32 + n ≤ length 
 -- a ring that was just made is well formed and empty
 pub fresh_starts : (n start offset : ℕ) (words : List ℕ) → 0 < n → n ≤ start → Fresh n start offset words → IsWellFormed n (ring_words offset words) × (line_of n (ring_words offset words) ≡ [])
 fresh_starts n start offset words pos turned fresh =
-    starts n (ring_words offset words) pos (omega (arith, turned, fresh.head)) (fresh.tail ∙ sym fresh.head)
-    (λ p lt near. ap (λ (x : ℕ). x / n) (fresh.entries p (omega (arith, lt, fresh.head)) (omega (arith, near, fresh.head))) ∙ div-mul-add (p / n) n 0 pos)
+    let begins = starts n (ring_words offset words) pos (omega (arith, turned, fresh.head)) (fresh.tail ∙ sym fresh.head)
+    (λ p lt near. ap (λ (x : ℕ). x / n) (fresh.entries p (omega (arith, lt, fresh.head)) (omega (arith, near, fresh.head))) ∙ div-mul-add (p / n) n 0 pos) in
+    (begins.0, begins.1)
 
 -- ---- the entries at first
 

@@ -1,29 +1,12 @@
 -- What a step does to what a ring's rule says of all views: who has each number, which pairs were put and taken, and which
 -- places were emptied. Views are of any type: what of the stepping seat's view has changed is a premise.
-use Rattle.std.proofs.Common.{ℕ, zero, suc, ◌+◌, ◌-◌, ◌≡◌, ◌<◌, List, set, ap, ◌∙◌, arith, inl, inr}
-use Rattle.std.proofs.lemmas.Bool.{cases_lt}
+use Rattle.std.proofs.Common.{ℕ, zero, suc, ◌+◌, ◌-◌, ◌≡◌, List, set, ap, ◌∙◌, arith}
 use mathlib.Core.Option.{some}
 use lib.ListN.{get_elem?}
-use Rattle.unit_model.specs.Sharing.{Owned, Holds}
-use Rattle.unit_model.specs.Weights.{weigh, below, is_number}
-use Rattle.unit_model.proofs.Views.{sum_set, sum_at}
-use Rattle.unit_model.proofs.Weights.{below_is_not}
+use Rattle.unit_model.specs.Weights.{weigh, below}
+use Rattle.unit_model.proofs.Views.{sum_set}
 use Rattle.nncq_ring.specs.Words.{Words, logical_tail, IsWellFormed, places, line_of}
 use Rattle.nncq_ring.specs.Rule.{Moved, Emptied}
-
--- what a seat gives goes elsewhere, or what comes from there is taken
-pub owned_moves : {V : Type 0} (held : (ℕ → ℕ) → V → ℕ) (elsewhere elsewhere' : (ℕ → ℕ) → ℕ) (n : ℕ) (views : List V) (k : ℕ) (v u : V) → get_elem? views k ≡ some v
-    → ((f : ℕ → ℕ) → elsewhere' f + held f u ≡ elsewhere f + held f v) → Owned held elsewhere n views → Owned held elsewhere' n (set views k u)
-owned_moves held elsewhere elsewhere' n views k v u at same old f = omega (arith, old f, same f, sum_set (held f) views k v u at)
-
--- a number that is held is below n
-pub held_small : {V : Type 0} (held : (ℕ → ℕ) → V → ℕ) (elsewhere : (ℕ → ℕ) → ℕ) (n : ℕ) (views : List V) (k : ℕ) (v : V) → get_elem? views k ≡ some v
-    → (number : ℕ) → Holds held number v → Owned held elsewhere n views → number < n
-held_small held elsewhere n views k v at number mine owned =
-    elim (cases_lt number n) [
-      | inl lt ↦ lt
-      | inr le ↦ absurd (omega (arith, mine, owned (is_number number), sum_at (held (is_number number)) views k v at, below_is_not n number le))
-    ]
 
 module _ {V : Type 0} (pushes pops : (ℕ → ℕ → ℕ) → V → ℕ) (n : ℕ) (w w' : Words) (views : List V) (k : ℕ) (v u : V) (at : get_elem? views k ≡ some v) where
   pub moved_stays : line_of n w' ≡ line_of n w → ((g : ℕ → ℕ → ℕ) → pushes g u ≡ pushes g v) → ((g : ℕ → ℕ → ℕ) → pops g u ≡ pops g v) → Moved pushes pops n w views → Moved pushes pops n w' (set views k u)

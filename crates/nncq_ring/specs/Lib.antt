@@ -2,9 +2,12 @@ pub mod Words
 pub mod LineLaws
 pub mod Later
 pub mod Notes
+pub mod Staying
 pub mod RingWords
-pub mod Views
 pub mod Moments
+pub mod Shown
+pub mod Turns
+pub mod Views
 pub mod Rule
 pub mod Seats
-pub mod Turns
+pub mod Ends

@@ -4,7 +4,9 @@ use Rattle.unit_model.specs.Weights.{weigh, below}
 use Rattle.nncq_ring.specs.Later.{Later}
 use Rattle.nncq_ring.specs.Notes.{EntryNoted, AllNoted}
 use Rattle.nncq_ring.specs.declared.view.RingEvent.{RingEvent}
-use Rattle.nncq_ring.specs.Words.{Words, entry_of, logical_tail, IsWellFormed, line_of, SetsEntry, SetsTail, SetsHead}
+use Rattle.nncq_ring.specs.Words.{Words, entry_of, logical_tail, IsWellFormed, line_of, SameWords, SetsEntry, SetsTail, SetsHead}
+use Rattle.nncq_ring.specs.RingWords.{StartsFull, full_line}
+use Rattle.nncq_ring.specs.Staying.{RingStays}
 
 -- An entry exchange that found the cycle before that of t, where t was the tail at some earlier time, puts its value last in
 -- the line, at t.
@@ -53,9 +55,17 @@ MayHelp = (n t : ℕ) (w : Words) → w.tail ≡ t → t < logical_tail n w → 
 abbrev pub MayTake : Type 0
 MayTake = (n h x : ℕ) (w : Words) → w.head ≡ h → x / n ≡ h / n → EntryNoted n w h x → (w.entry (w.head % n) ≡ x) × (w.entry (w.head % n) / n ≡ w.head / n)
 
--- A ring at its start, with the cycle of each of the n places before it, is empty.
+-- A ring at its start, with the cycle of each of the n places before it, is empty, and its logical tail is the start.
 abbrev pub Starts : Type 0
-Starts = (n : ℕ) (w : Words) → 0 < n → n ≤ w.head → w.tail ≡ w.head → ((p : ℕ) → p < w.head → w.head ≤ p + n → w.entry (p % n) / n ≡ p / n) → IsWellFormed n w × (line_of n w ≡ [])
+Starts = (n : ℕ) (w : Words) → 0 < n → n ≤ w.head → w.tail ≡ w.head → ((p : ℕ) → p < w.head → w.head ≤ p + n → w.entry (p % n) / n ≡ p / n) → IsWellFormed n w × (line_of n w ≡ []) × (logical_tail n w ≡ w.head)
+
+-- A ring that starts full has all values in ascending order from the start on.
+abbrev pub StartsInOrder : Type 0
+StartsInOrder = (n start : ℕ) (w : Words) → 0 < n → n ≤ start → StartsFull n start w → IsWellFormed n w × (logical_tail n w ≡ start + n) × (line_of n w ≡ full_line start n)
+
+-- Where no word of the ring changed, all of it stays.
+abbrev pub SameWordsStay : Type 0
+SameWordsStay = (n : ℕ) (w w' : Words) → IsWellFormed n w → SameWords n w w' → RingStays n w w'
 
 -- Notes stay true.
 abbrev pub NotesStay : Type 0

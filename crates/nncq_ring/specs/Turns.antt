@@ -1,61 +1,82 @@
--- What a turn does to what its seat knows. `n` is the ring's size.
-use Rattle.std.specs.Prelude.{ℕ, ◌+◌, ◌/◌, ◌%◌, ◌^◌, ◌≡◌, ◌≢◌, ◌≤◌, ◌<◌, ◌⊎◌, ◌++◌, List, [], ◌∷◌}
+-- What a turn tells: the events of its steps, newest first, and what was so at them. `n` is the ring's size, `log` is what the
+-- seat had noted of the ring before, and `steps e v u` says that a step with the event e may take a view from v to u.
+use Rattle.std.specs.Prelude.{ℕ, ◌+◌, ◌/◌, ◌%◌, ◌^◌, ◌≡◌, ◌≢◌, ◌≤◌, ◌<◌, ◌⊎◌, List, [], ◌∷◌}
 use Rattle.nncq_ring.specs.declared.view.RingEvent.{RingEvent}
 use Rattle.nncq_ring.specs.declared.view.RingEvent.TheVariants.{SawTail, SawHead, SawEntry, Pushed, Popped}
-use Rattle.nncq_ring.specs.declared.view.RingView.{RingView}
-use Rattle.nncq_ring.specs.Views.{after, given, taken, seen_tail, seen_head}
-use Rattle.nncq_ring.specs.Moments.{PutLast, TookFirst, WasEmpty}
-use Rattle.nncq_ring.specs.Rule.{IsPast}
+use Rattle.nncq_ring.specs.Moments.{PutLast, TookFirst, WasEmpty, WasHead, WasTail}
+
+-- ---- events
+
+-- several events, newest first, took a view from the first to the second
+abbrev pub Chain : {V : Type 0} → (RingEvent → V → V → Type 0) → List RingEvent → V → V → Type 0
+Chain steps [] v v' = v' ≡ v
+Chain {V} steps (e ∷ es) v v' = (u : V) × Chain steps es v u × steps e u v'
+
+-- Some events took the view from the first to the second, and this holds of them.
+abbrev pub Tells : {V : Type 0} → (RingEvent → V → V → Type 0) → V → V → (List RingEvent → Type 0) → Type 0
+Tells steps v v' says = (events : List RingEvent) × says events × Chain steps events v v'
+
+-- the tail was seen, and then the entry at its place; the same of the head
+abbrev pub tail_looks : ℕ → ℕ → List RingEvent
+tail_looks place entry = SawEntry place entry ∷ SawTail place ∷ []
+
+abbrev pub head_looks : ℕ → ℕ → List RingEvent
+head_looks place entry = SawEntry place entry ∷ SawHead place ∷ []
 
 -- ---- a push
 
 -- Done: the tail was below 2^62, its slot had the cycle before, and the exchange put the value last in the line. Then the tail
 -- is past the place.
-pub record IsDone (n value : ℕ) (v v' : RingView) (place : ℕ) : Type 0 where
+pub record IsDone (n value : ℕ) (log : List RingEvent) (place : ℕ) (events : List RingEvent) : Type 0 where
   pub fresh : place < 2 ^ 62
   pub entry : ℕ
   pub before : entry / n + 1 ≡ place / n
-  pub last : PutLast n place value (seen_tail place entry v)
-  pub told : IsPast place (given place value (seen_tail place entry v)) v'
+  pub last : PutLast n place value (SawEntry place entry ∷ SawTail place ∷ log)
+  pub tail : ℕ
+  pub past : place < tail
+  pub told : events ≡ SawTail tail ∷ Pushed place value ∷ tail_looks place entry
 
--- Lost: the slot was filled already, and then the tail is past the place; or the slot has a later cycle, which shows that the
--- head is past the place; or the exchange found another entry.
-pub record IsPushLost (n : ℕ) (v v' : RingView) (place entry : ℕ) : Type 0 where
+-- Lost: the place was the tail. The slot was filled already, and then the tail is past the place; or the slot has a later
+-- cycle, which shows that the head is past the place; or the exchange found another entry, of the place's cycle or a later one.
+pub record IsPushLost (n : ℕ) (log : List RingEvent) (place entry : ℕ) (events : List RingEvent) : Type 0 where
   pub fresh : place < 2 ^ 62
-  pub cause : ((entry / n ≡ place / n) × IsPast place (seen_tail place entry v) v')
-      ⊎ (((place / n < entry / n) × (v' ≡ seen_tail place entry v))
-      ⊎ ((entry / n + 1 ≡ place / n) × (found : ℕ) × (found ≢ entry) × (v' ≡ after (SawEntry place found) (seen_tail place entry v))))
+  pub was : WasTail n place log
+  pub cause : ((entry / n ≡ place / n) × (tail : ℕ) × (place < tail) × (events ≡ SawTail tail ∷ tail_looks place entry))
+      ⊎ (((place / n < entry / n) × (events ≡ tail_looks place entry))
+      ⊎ ((entry / n + 1 ≡ place / n) × (found : ℕ) × (found ≢ entry) × (place / n ≤ found / n) × (events ≡ SawEntry place found ∷ tail_looks place entry)))
 
--- Worn: the tail was 2^62 or more.
-pub record IsWorn (v v' : RingView) (place : ℕ) : Type 0 where
+-- Worn: the place was the tail, and it was 2^62 or more.
+pub record IsWorn (n : ℕ) (log : List RingEvent) (place : ℕ) (events : List RingEvent) : Type 0 where
   pub high : 2 ^ 62 ≤ place
-  pub told : v' ≡ after (SawTail place) v
+  pub was : WasTail n place log
+  pub told : events ≡ SawTail place ∷ []
 
 -- ---- a pop
 
 -- Got: the slot at the head had the head's cycle, and the exchange took the first of the line.
-pub record IsGot (n : ℕ) (v v' : RingView) (place value : ℕ) : Type 0 where
+pub record IsGot (n : ℕ) (log : List RingEvent) (place value : ℕ) (events : List RingEvent) : Type 0 where
   pub entry : ℕ
   pub full : entry / n ≡ place / n
   pub carried : value ≡ entry % n
-  pub first : TookFirst n place value (seen_head place entry v)
-  pub told : v' ≡ taken place value (seen_head place entry v)
+  pub first : TookFirst n place value (SawEntry place entry ∷ SawHead place ∷ log)
+  pub told : events ≡ Popped place value ∷ head_looks place entry
 
 -- Empty: the slot at the head had the cycle before, so the line was empty at that look.
-pub record IsEmpty (n : ℕ) (v v' : RingView) (place entry : ℕ) : Type 0 where
+pub record IsEmpty (n : ℕ) (log : List RingEvent) (place entry : ℕ) (events : List RingEvent) : Type 0 where
   pub before : entry / n + 1 ≡ place / n
-  pub was : WasEmpty n place (after (SawHead place) v)
-  pub told : v' ≡ seen_head place entry v
+  pub was : WasEmpty n place (SawHead place ∷ log)
+  pub told : events ≡ head_looks place entry
 
--- Lost: the slot has a later cycle, which shows that the head is past the place; or the exchange found another head.
-abbrev pub IsPopLost : ℕ → RingView → RingView → ℕ → ℕ → Type 0
-IsPopLost n v v' place entry =
-    ((place / n < entry / n) × (v' ≡ seen_head place entry v))
-    ⊎ ((entry / n ≡ place / n) × (found : ℕ) × (found ≢ place) × (v' ≡ after (SawHead found) (seen_head place entry v)))
+-- Lost: the place was the head. The slot has a later cycle, which shows that the head is past the place; or the exchange found
+-- a later head.
+pub record IsPopLost (n : ℕ) (log : List RingEvent) (place entry : ℕ) (events : List RingEvent) : Type 0 where
+  pub was : WasHead n place log
+  pub cause : ((place / n < entry / n) × (events ≡ head_looks place entry))
+      ⊎ ((entry / n ≡ place / n) × (found : ℕ) × (place < found) × (events ≡ SawHead found ∷ head_looks place entry))
 
 -- ---- turns that were lost
 
--- what an event that is a look says
+-- the event is a look
 abbrev pub IsLook : RingEvent → Type 0
 IsLook (SawTail tail) = Unit {0}
 IsLook (SawHead head) = Unit {0}
@@ -67,14 +88,6 @@ abbrev pub AllLooks : List RingEvent → Type 0
 AllLooks [] = Unit {0}
 AllLooks (e ∷ es) = IsLook e × AllLooks es
 
--- the seat has looked, and nothing more: what it holds stays
-pub record HasLooked (v v' : RingView) : Type 0 where
-  pub held : v'.held ≡ v.held
-  pub joined : v'.joined ≡ v.joined
-  pub looks : List RingEvent
-  pub log : v'.log ≡ looks ++ v.log
-  pub only : AllLooks looks
-
 -- after looks alone, this holds of what the seat then knows
-abbrev pub AfterLooks : RingView → (RingView → Type 0) → Type 0
-AfterLooks v ends = (v' : RingView) × HasLooked v v' × ends v'
+abbrev pub AfterLooks : {V : Type 0} → (RingEvent → V → V → Type 0) → V → (V → Type 0) → Type 0
+AfterLooks {V} steps v ends = (u : V) × Tells steps v u AllLooks × ends u

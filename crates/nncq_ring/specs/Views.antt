@@ -1,10 +1,13 @@
 -- What a seat of a ring knows: the numbers that it holds, its events, newest first, and those of seats that it has joined.
-use Rattle.std.specs.Prelude.{ℕ, ◌==◌, ◌++◌, List, [], ◌∷◌}
+use Rattle.std.specs.Prelude.{ℕ, ◌≡◌, ◌==◌, ◌++◌, List, [], ◌∷◌}
+use mathlib.Core.Path.{ap, sym, subst}
 use Rattle.std.specs.List.{range_with_len}
+use Rattle.unit_model.specs.Sharing.{Holds}
 use Rattle.unit_model.specs.Weights.{weigh, without_first}
 use Rattle.nncq_ring.specs.declared.view.RingEvent.{RingEvent}
 use Rattle.nncq_ring.specs.declared.view.RingEvent.TheVariants.{SawTail, SawHead, SawEntry, Pushed, Popped}
 use Rattle.nncq_ring.specs.declared.view.RingView.{RingView}
+use Rattle.nncq_ring.specs.Turns.{IsLook}
 
 -- ---- what a view says
 
@@ -44,10 +47,6 @@ whole n = record { held = range_with_len 0 n; log = []; joined = [] }
 abbrev pub empty : RingView
 empty = record { held = []; log = []; joined = [] }
 
--- one event more
-abbrev pub after : RingEvent → RingView → RingView
-after e v = record { held = v.held; log = e ∷ v.log; joined = v.joined }
-
 -- without a number that it holds
 abbrev pub without : ℕ → RingView → RingView
 without value v = record { held = without_first (λ x. x == value) v.held; log = v.log; joined = v.joined }
@@ -64,17 +63,33 @@ just value = record { held = value ∷ []; log = []; joined = [] }
 abbrev pub together : RingView → RingView → RingView
 together v w = record { held = w.held ++ v.held; log = v.log; joined = v.joined ++ (w.log ++ w.joined) }
 
--- a place was filled with a number that it held
-abbrev pub given : ℕ → ℕ → RingView → RingView
-given place value v = after (Pushed place value) (without value v)
+-- ---- what an event makes of a view
 
--- a place was emptied, and its number is now held
-abbrev pub taken : ℕ → ℕ → RingView → RingView
-taken place value v = after (Popped place value) (holding value v)
+-- a number that is put goes, and one that is taken comes
+abbrev pub held_after : RingEvent → List ℕ → List ℕ
+held_after (SawTail tail) held = held
+held_after (SawHead head) held = held
+held_after (SawEntry place entry) held = held
+held_after (Pushed place value) held = without_first (λ x. x == value) held
+held_after (Popped place value) held = value ∷ held
 
--- the tail was seen, and then the entry at its place; the same of the head
-abbrev pub seen_tail : ℕ → ℕ → RingView → RingView
-seen_tail place entry v = after (SawEntry place entry) (after (SawTail place) v)
+abbrev pub does : RingEvent → RingView → RingView
+does e v = record { held = held_after e v.held; log = e ∷ v.log; joined = v.joined }
 
-abbrev pub seen_head : ℕ → ℕ → RingView → RingView
-seen_head place entry v = after (SawEntry place entry) (after (SawHead place) v)
+-- the second view is what the event makes of the first
+abbrev pub makes : RingEvent → RingView → RingView → Type 0
+makes e v u = u ≡ does e v
+
+pub does_logs : (e : RingEvent) (v u : RingView) → makes e v u → events_of u ≡ e ∷ events_of v
+does_logs e v u is = ap events_of is
+
+-- a look leaves what is held
+look_keeps_held : (e : RingEvent) (number : ℕ) (v : RingView) → IsLook e → Holds held_by number v → Holds held_by number (does e v)
+look_keeps_held (SawTail tail) number v look held = held
+look_keeps_held (SawHead head) number v look held = held
+look_keeps_held (SawEntry place entry) number v look held = held
+look_keeps_held (Pushed place value) number v look held = absurd (look tt)
+look_keeps_held (Popped place value) number v look held = absurd (look tt)
+
+pub look_keeps : (e : RingEvent) (number : ℕ) (v u : RingView) → IsLook e → makes e v u → Holds held_by number v → Holds held_by number u
+look_keeps e number v u look is held = subst (Holds held_by number) (sym is) (look_keeps_held e number v look held)

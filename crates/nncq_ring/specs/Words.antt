@@ -49,3 +49,9 @@ pub record SetsHead (n : ℕ) (w w' : Words) (head' : ℕ) : Type 0 where
   pub head : w'.head ≡ head'
   pub tail : w'.tail ≡ w.tail
   pub entries : (j : ℕ) → j < n → w'.entry j ≡ w.entry j
+
+-- no word of the ring changed
+pub record SameWords (n : ℕ) (w w' : Words) : Type 0 where
+  pub head : w'.head ≡ w.head
+  pub tail : w'.tail ≡ w.tail
+  pub entries : (j : ℕ) → j < n → w'.entry j ≡ w.entry j

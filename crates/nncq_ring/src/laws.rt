@@ -6,7 +6,7 @@ ghost use Rattle.nncq_ring.specs.Later.{Later};
 ghost use Rattle.nncq_ring.specs.Notes.{Noted, RingPart};
 ghost use Rattle.nncq_ring.specs.Words.{IsWellFormed, Words};
 ghost use Rattle.nncq_ring.specs.declared.view.RingEvent.{RingEvent};
-ghost use Rattle.nncq_ring.specs.LineLaws.{EmptySeen, FullSeen, LookNoted, MayHelp, MayTake, NotesStay, Starts, EntryExchange, EntryExchangeLater, HeadExchange, HeadExchangeLater, RoomFromOwnership, TailExchange, TailExchangeLater};
+ghost use Rattle.nncq_ring.specs.LineLaws.{EmptySeen, FullSeen, LookNoted, MayHelp, MayTake, NotesStay, SameWordsStay, Starts, StartsInOrder, EntryExchange, EntryExchangeLater, HeadExchange, HeadExchangeLater, RoomFromOwnership, TailExchange, TailExchangeLater};
 
 /// An entry exchange that is won puts its value last in the line, at the place for which it was read, and makes the words later.
 pub fn won_entry_exchange()
@@ -56,6 +56,16 @@ pub fn a_ring_starts_empty()
     ensures { Starts }
 {}
 
+/// A ring that starts full has all values in ascending order at the places from the start on.
+pub fn a_ring_starts_full()
+    ensures { StartsInOrder }
+{}
+
+/// A step that changes none of a ring's words leaves its line, its logical tail and all notes.
+pub fn same_words_stay()
+    ensures { SameWordsStay }
+{}
+
 /// What was noted of the words stays true as they become later.
 pub fn notes_stay_true()
     ensures { NotesStay }
@@ -68,6 +78,8 @@ pub fn a_look_is_noted()
 
 /// A ring's part of a rule is kept by a step that makes the words later and notes one event.
 pub fn parts_step()
-    ensures { (n : ℕ) (w : Words) (views : List (List RingEvent)) (k : ℕ) (v : List RingEvent) → get_elem? views k ≡ some v → RingPart n (λ log. log) w views → (w' : Words) (e : RingEvent) → Later n w w' → IsWellFormed n w' → Noted n w' e
+    ensures { (n : ℕ) (w : Words) (views : List (List RingEvent)) (k : ℕ) (v : List RingEvent)
+        → get_elem? views k ≡ some v → RingPart n (λ log. log) w views
+        → (w' : Words) (e : RingEvent) → Later n w w' → IsWellFormed n w' → Noted n w' e
         → RingPart n (λ log. log) w' (set views k (e ∷ v)) }
 {}

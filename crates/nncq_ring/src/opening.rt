@@ -1,6 +1,7 @@
 //! The words of a ring that was just made.
-ghost use Rattle.std.specs.Prelude.{◌≡◌, ◌≤◌, ◌<◌, ◌+◌, ◌*◌, ◌/◌, ◌%◌, ℕ, length, IfOk};
+ghost use Rattle.std.specs.Prelude.{◌≡◌, ◌≤◌, ◌<◌, ◌+◌, ◌*◌, ◌/◌, ◌%◌, ◌^◌, ℕ, length, IfOk};
 ghost use Rattle.nncq_ring.specs.RingWords.{Fresh};
+ghost use Rattle.nncq_ring.specs.Words.{entry_of};
 
 use std::alloc::{AllocError, Global};
 
@@ -12,10 +13,11 @@ pub const TAIL: usize = 32;
 
 pub const ENTRIES: usize = 48;
 
-// The entry of value 0 at the last place before the start that has this slot.
-fn first_entry(size: u64, start: u64, slot: u64) -> u64
+/// The first entry of a slot of an empty ring: that of value 0 at the last place before the start that has this slot.
+pub fn first_entry(size: u64, start: u64, slot: u64) -> u64
     requires { (slot < size) × (size ≤ start) }
-    ensures { (place : ℕ) → place < start → start ≤ place + size → place % size ≡ slot → result ≡ place / size * size }
+    ensures { (place : ℕ) → place < start → start ≤ place + size → place % size ≡ slot
+        → result ≡ place / size * size }
 {
     let turn = start - start % size;
     if slot < start % size {
@@ -25,10 +27,35 @@ fn first_entry(size: u64, start: u64, slot: u64) -> u64
     }
 }
 
+// The entry of a value at the place so many places behind the start.
+fn entry_behind(size: u64, start: u64, value: u64) -> u64
+    requires { (1 ≤ size) × (start < 2 ^ 62) × (value < 2 ^ 62) }
+    ensures { result ≡ entry_of size (start + value) value }
+{
+    let place = start + value;
+    place - place % size + value
+}
+
+/// The first entry of a slot of a ring that starts full: that of the value whose place, so many places behind the start, has
+/// this slot.
+pub fn full_entry(size: u64, start: u64, slot: u64) -> u64
+    requires { (slot < size) × (size ≤ start) × (start < 2 ^ 62) }
+    ensures { (value : ℕ) → value < size → (start + value) % size ≡ slot
+        → result ≡ entry_of size (start + value) value }
+{
+    let begin = start % size;
+    if slot < begin {
+        entry_behind(size, start, slot + size - begin)
+    } else {
+        entry_behind(size, start, slot - begin)
+    }
+}
+
 /// The words of an empty ring.
 pub fn first_words(alloc: Global, size: u32, start: u64) -> Result<Vec<u64>, AllocError>
     requires { (1 ≤ size) × (size ≤ 16384) × (size ≤ start) }
-    ensures { IfOk result (λ words. (length words.items ≡ size + 48) × Fresh size start 16 words.items) }
+    ensures { IfOk result (λ words. (length words.items ≡ size + 48)
+        × Fresh size start 16 words.items) }
 {
     let mut words = vec![in alloc; 0u64; ENTRIES]?;
     words[HEAD] = start;

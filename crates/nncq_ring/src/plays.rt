@@ -35,20 +35,24 @@ impl Aim for Brand {
     ghost value = { 0 };
 }
 
-pub struct SeeingTail;
-
-impl<S> Play<S, RingView> for SeeingTail {
-    ghost use Rattle.nncq_ring.specs.Rule.{SeesTail};
-
-    ghost then = { SeesTail };
+pub struct SeeingTail<J> {
+    aim: PhantomData<J>,
 }
 
-pub struct SeeingHead;
+impl<S, J: Aim> Play<S, RingView> for SeeingTail<J> {
+    ghost use Rattle.nncq_ring.specs.Rule.{SeesTail};
 
-impl<S> Play<S, RingView> for SeeingHead {
+    ghost then = { SeesTail J.size };
+}
+
+pub struct SeeingHead<J> {
+    aim: PhantomData<J>,
+}
+
+impl<S, J: Aim> Play<S, RingView> for SeeingHead<J> {
     ghost use Rattle.nncq_ring.specs.Rule.{SeesHead};
 
-    ghost then = { SeesHead };
+    ghost then = { SeesHead J.size };
 }
 
 pub struct SeeingEntry<J> {

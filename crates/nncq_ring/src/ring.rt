@@ -14,7 +14,8 @@ use std::marker::Brand;
 pub struct Ring {
     pub(crate) table: Table<u8, RingView, (u32, u64), RingRule, Global>,
     pub(crate) size: u32,
-    ghost sized: { (table.shared.key.0 ≡ size) × (table.shared.table_id.words ≡ size + 48) × (1 ≤ size) },
+    ghost sized: { (table.shared.key.0 ≡ size) × (table.shared.table_id.words ≡ size + 48)
+        × (1 ≤ size) × (table.shared.table_id.slots ≡ 0) },
 }
 
 impl Ring {
@@ -27,7 +28,8 @@ impl Ring {
     /// Fails for want of memory alone.
     pub fn open(alloc: Global, size: u32, start: u64) -> Result<(Ring, RingSeat), AllocError>
         requires { (1 ≤ size) × (size ≤ 16384) × (size ≤ start) × (start < 2 ^ 62) }
-        ensures { IfOk result (λ r. (r.0.size ≡ size) × (start_of r.0 ≡ start) × BelongsTo r.1 r.0 × (knows r.1 ≡ whole size)) }
+        ensures { IfOk result (λ r. (r.0.size ≡ size) × (start_of r.0 ≡ start) × BelongsTo r.1 r.0
+            × (knows r.1 ≡ whole size)) }
     {
         let words = first_words(alloc, size, start)?;
         let (table, seat) = Table::of_words(alloc, words.as_slice(), &(size, start))?;

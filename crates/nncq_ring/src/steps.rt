@@ -1,5 +1,5 @@
-//! The atomic steps of a ring: each is one load or one exchange of one word.
-ghost use Rattle.std.specs.Prelude.{◌≡◌, ◌≤◌, ◌<◌, ◌+◌, ◌^◌, ◌/◌, ◌%◌, ◌==◌, ℕ, cond};
+//! The atomic steps of a ring's table: each is one load or one exchange of one word.
+ghost use Rattle.std.specs.Prelude.{◌≡◌, ◌≢◌, ◌≤◌, ◌<◌, ◌+◌, ◌^◌, ◌/◌, ◌%◌, ℕ};
 
 use crate::opening::{ENTRIES, HEAD, TAIL};
 use crate::plays::{Aim, Helping, Putting, SeeingEntry, SeeingHead, SeeingTail, Taking};
@@ -10,32 +10,37 @@ impl Ring {
     ghost use mathlib.Core.Option.{some};
     ghost use lib.ListN.{get_elem?};
     ghost use Rattle.unit_model.specs.Sharing.{Holds};
-    ghost use Rattle.nncq_ring.specs.Moments.{PutLast, TookFirst, WasEmpty};
-    ghost use Rattle.nncq_ring.specs.Rule.{IsPast, SawPlace, ShowsFilled};
+    ghost use Rattle.nncq_ring.specs.Moments.{PutLast, TookFirst, WasEmpty, WasHead, WasTail};
+    ghost use Rattle.nncq_ring.specs.Rule.{IsPast};
     ghost use Rattle.nncq_ring.specs.Seats.{BelongsTo, knows};
-    ghost use Rattle.nncq_ring.specs.Views.{after, given, held_by, taken};
-    ghost use Rattle.nncq_ring.specs.declared.view.RingEvent.TheVariants.{SawEntry, SawHead, SawTail};
+    ghost use Rattle.nncq_ring.specs.Shown.{SawPlace, ShowsFilled};
+    ghost use Rattle.nncq_ring.specs.Views.{events_of, held_by, makes};
+    ghost use Rattle.nncq_ring.specs.declared.view.RingEvent.TheVariants.{Popped, Pushed, SawEntry, SawHead, SawTail};
 
-    pub(crate) fn see_tail(&self, seat: &mut RingSeat) -> u64
+    pub(crate) fn load_tail<J: Aim>(&self, seat: &mut RingSeat) -> u64
         requires own { BelongsTo seat.old self.now }
+        requires aim { J.size ≡ self.now.size }
         ensures own { BelongsTo seat.new self.now }
         ensures most { result ≤ 2 ^ 62 }
-        ensures view { knows seat.new ≡ after (SawTail result) (knows seat.old) }
+        ensures was { WasTail self.now.size result (events_of (knows seat.old)) }
+        ensures view { makes (SawTail result) (knows seat.old) (knows seat.new) }
     {
         let table = &self.table;
         let shared = &table.shared;
-        shared.load::<SeeingTail>(&mut seat.seat, TAIL)
+        shared.load::<SeeingTail<J>>(&mut seat.seat, TAIL)
     }
 
-    pub(crate) fn see_head(&self, seat: &mut RingSeat) -> u64
+    pub(crate) fn load_head<J: Aim>(&self, seat: &mut RingSeat) -> u64
         requires own { BelongsTo seat.old self.now }
+        requires aim { J.size ≡ self.now.size }
         ensures own { BelongsTo seat.new self.now }
         ensures most { result ≤ 2 ^ 62 }
-        ensures view { knows seat.new ≡ after (SawHead result) (knows seat.old) }
+        ensures was { WasHead self.now.size result (events_of (knows seat.old)) }
+        ensures view { makes (SawHead result) (knows seat.old) (knows seat.new) }
     {
         let table = &self.table;
         let shared = &table.shared;
-        shared.load::<SeeingHead>(&mut seat.seat, HEAD)
+        shared.load::<SeeingHead<J>>(&mut seat.seat, HEAD)
     }
 
     fn word_of(&self, place: u64) -> usize
@@ -44,13 +49,16 @@ impl Ring {
         ENTRIES + (place % self.size as u64) as usize
     }
 
-    pub(crate) fn see_entry<J: Aim>(&self, seat: &mut RingSeat, place: u64) -> u64
+    pub(crate) fn load_entry<J: Aim>(&self, seat: &mut RingSeat, place: u64) -> u64
         requires own { BelongsTo seat.old self.now }
         requires aim { (J.size ≡ self.now.size) × (J.place ≡ place) }
         ensures own { BelongsTo seat.new self.now }
-        ensures view { knows seat.new ≡ after (SawEntry place result) (knows seat.old) }
-        ensures near { SawPlace place (knows seat.old).log → place / self.now.size ≤ result / self.now.size + 1 }
-        ensures empty { get_elem? (knows seat.old).log 0 ≡ some (SawHead place) → result / self.now.size + 1 ≡ place / self.now.size → WasEmpty self.now.size place (knows seat.old) }
+        ensures view { makes (SawEntry place result) (knows seat.old) (knows seat.new) }
+        ensures near { SawPlace place (events_of (knows seat.old))
+            → place / self.now.size ≤ result / self.now.size + 1 }
+        ensures empty { get_elem? (events_of (knows seat.old)) 0 ≡ some (SawHead place)
+            → result / self.now.size + 1 ≡ place / self.now.size
+            → WasEmpty self.now.size place (events_of (knows seat.old)) }
     {
         let word = self.word_of(place);
         let table = &self.table;
@@ -59,16 +67,26 @@ impl Ring {
     }
 
     // Exchanges the entry for that of the place and the value. The result is what was found.
-    pub(crate) fn put<J: Aim>(&self, seat: &mut RingSeat, place: u64, entry: u64, v: u32) -> u64
+    pub(crate) fn exchange_entry<J: Aim>(
+        &self,
+        seat: &mut RingSeat,
+        place: u64,
+        entry: u64,
+        v: u32,
+    ) -> u64
         requires own { BelongsTo seat.old self.now }
         requires aim { (J.size ≡ self.now.size) × (J.place ≡ place) × (J.value ≡ v) }
         requires fresh { place < 2 ^ 62 }
         requires held { Holds held_by v (knows seat.old) }
         requires before { entry / self.now.size + 1 ≡ place / self.now.size }
-        requires seen { get_elem? (knows seat.old).log 1 ≡ some (SawTail place) }
+        requires looked { get_elem? (events_of (knows seat.old)) 0 ≡ some (SawEntry place entry) }
+        requires seen { get_elem? (events_of (knows seat.old)) 1 ≡ some (SawTail place) }
         ensures own { BelongsTo seat.new self.now }
-        ensures view { knows seat.new ≡ cond (result == entry) (given place v (knows seat.old)) (after (SawEntry place result) (knows seat.old)) }
-        ensures last { result ≡ entry → PutLast self.now.size place v (knows seat.old) }
+        ensures won { result ≡ entry → makes (Pushed place v) (knows seat.old) (knows seat.new)
+            × PutLast self.now.size place v (events_of (knows seat.old)) }
+        ensures missed { result ≢ entry
+            → makes (SawEntry place result) (knows seat.old) (knows seat.new)
+            × (place / self.now.size ≤ result / self.now.size) }
     {
         let word = self.word_of(place);
         let turn = place - place % self.size as u64;
@@ -78,15 +96,19 @@ impl Ring {
     }
 
     // Exchanges the head for the next place. The result is what was found.
-    pub(crate) fn take<J: Aim>(&self, seat: &mut RingSeat, place: u64, entry: u64) -> u64
+    pub(crate) fn exchange_head<J: Aim>(&self, seat: &mut RingSeat, place: u64, entry: u64) -> u64
         requires own { BelongsTo seat.old self.now }
         requires aim { (J.size ≡ self.now.size) × (J.value ≡ entry % self.now.size) }
         requires most { place ≤ 2 ^ 62 }
         requires full { entry / self.now.size ≡ place / self.now.size }
-        requires seen { get_elem? (knows seat.old).log 0 ≡ some (SawEntry place entry) }
+        requires looked { get_elem? (events_of (knows seat.old)) 0 ≡ some (SawEntry place entry) }
+        requires seen { get_elem? (events_of (knows seat.old)) 1 ≡ some (SawHead place) }
         ensures own { BelongsTo seat.new self.now }
-        ensures view { knows seat.new ≡ cond (result == place) (taken place (entry % self.now.size) (knows seat.old)) (after (SawHead result) (knows seat.old)) }
-        ensures first { result ≡ place → TookFirst self.now.size place (entry % self.now.size) (knows seat.old) }
+        ensures won { result ≡ place
+            → makes (Popped place (entry % self.now.size)) (knows seat.old) (knows seat.new)
+            × TookFirst self.now.size place (entry % self.now.size) (events_of (knows seat.old)) }
+        ensures missed { result ≢ place → makes (SawHead result) (knows seat.old) (knows seat.new)
+            × (place < result) }
     {
         let table = &self.table;
         let shared = &table.shared;
@@ -94,10 +116,10 @@ impl Ring {
     }
 
     // Helps the tail on, so that it is past the place.
-    pub(crate) fn move_tail(&self, seat: &mut RingSeat, place: u64)
+    pub(crate) fn exchange_tail(&self, seat: &mut RingSeat, place: u64)
         requires own { BelongsTo seat.old self.now }
         requires fresh { place < 2 ^ 62 }
-        requires shown { ShowsFilled self.now.size place (knows seat.old).log }
+        requires shown { ShowsFilled self.now.size place (events_of (knows seat.old)) }
         ensures own { BelongsTo seat.new self.now }
         ensures view { IsPast place (knows seat.old) (knows seat.new) }
     {

@@ -56,7 +56,20 @@ fn the_second_value_stands_at_the_second_place(rt: HostRuntime) -> Result<(), Al
         ring.pop_turn(&mut seat),
         PopTurn::Got { place: 5, value: 2 }
     );
+    let closed = ring.close(seat);
+    assert_eq!(rt; (closed.head(), closed.tail(), closed.entry(1)), (6, 6, 6));
     Ok(())
+}
+
+#[test]
+fn a_ring_of_four_starts_full(rt: HostRuntime) {
+    let entries = [
+        full_entry(4, 6, 2),
+        full_entry(4, 6, 3),
+        full_entry(4, 6, 0),
+        full_entry(4, 6, 1),
+    ];
+    assert_eq!(rt; entries, [4, 5, 10, 11]);
 }
 
 #[test]
@@ -94,7 +107,8 @@ fn pushes<R: Wait>(rt: &R, ring: &Ring, seat: &mut RingSeat, v: u32) -> bool
     requires own { BelongsTo seat.old ring.now }
     requires held { Holds held_by v (knows seat.old) }
     ensures own { BelongsTo seat.new ring.now }
-    ensures others { (i : ℕ) → i ≢ v → Holds held_by i (knows seat.old) → Holds held_by i (knows seat.new) }
+    ensures others { (i : ℕ) → i ≢ v → Holds held_by i (knows seat.old)
+        → Holds held_by i (knows seat.new) }
 {
     match ring.push(rt, seat, v) {
         PushEnd::Done(_) => true,

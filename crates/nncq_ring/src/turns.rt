@@ -1,9 +1,8 @@
-//! One attempt to push or to pop. A turn takes no memory and doesn't wait.
+//! One attempt to push or to pop, at any ring that has the steps of one. A turn takes no memory and doesn't wait.
 ghost use Rattle.std.specs.Prelude.{◌≡◌, ◌≤◌, ◌<◌, ◌+◌, ◌^◌, ◌/◌, ◌%◌, ◌↔◌, ℕ};
+ghost use Rattle.nncq_ring.specs.Turns.{IsDone, IsEmpty, IsGot, IsPopLost, IsPushLost, IsWorn, Tells};
 
-use crate::ring::Ring;
-use crate::seat::RingSeat;
-use std::marker::Brand;
+use crate::single::RingSteps;
 
 // From this place on nothing is pushed, so that places never wrap.
 const WORN: u64 = 4611686018427387904;
@@ -41,72 +40,79 @@ enum SlotState {
     Elsewhere,
 }
 
-impl Ring {
-    ghost use Rattle.unit_model.specs.Sharing.{Holds};
-    ghost use Rattle.nncq_ring.specs.Seats.{BelongsTo, knows};
-    ghost use Rattle.nncq_ring.specs.Turns.{IsDone, IsEmpty, IsGot, IsPopLost, IsPushLost, IsWorn};
-    ghost use Rattle.nncq_ring.specs.Views.{held_by, seen_head, seen_tail};
-
-    fn slot_state(&self, place: u64, entry: u64) -> SlotState
-        ensures filled { (result ≡ SlotState.Filled) ↔ (entry / self.now.size ≡ place / self.now.size) }
-        ensures vacant { (result ≡ SlotState.Vacant) ↔ (entry / self.now.size + 1 ≡ place / self.now.size) }
-    {
-        let size = self.size as u64;
-        let cycle = place / size;
-        let found = entry / size;
-        if found == cycle {
-            SlotState::Filled
-        } else if found < cycle && cycle - found == 1 {
-            SlotState::Vacant
-        } else {
-            SlotState::Elsewhere
-        }
+fn slot_state(size: u64, place: u64, entry: u64) -> SlotState
+    requires { 1 ≤ size }
+    ensures filled { (result ≡ SlotState.Filled) ↔ (entry / size ≡ place / size) }
+    ensures vacant { (result ≡ SlotState.Vacant) ↔ (entry / size + 1 ≡ place / size) }
+{
+    let cycle = place / size;
+    let found = entry / size;
+    if found == cycle {
+        SlotState::Filled
+    } else if found < cycle && cycle - found == 1 {
+        SlotState::Vacant
+    } else {
+        SlotState::Elsewhere
     }
+}
 
-    /// Tries once to put a number that the seat holds last in the line.
-    pub fn push_turn(&self, seat: &mut RingSeat, v: u32) -> PushTurn
-        requires own { BelongsTo seat.old self.now }
-        requires held { Holds held_by v (knows seat.old) }
-        ensures own { BelongsTo seat.new self.now }
-        ensures done { (place : ℕ) → result ≡ PushTurn.Done place → IsDone self.now.size v (knows seat.old) (knows seat.new) place }
-        ensures lost { (tail entry : ℕ) → result ≡ PushTurn.Lost tail entry → IsPushLost self.now.size (knows seat.old) (knows seat.new) tail entry }
-        ensures worn { (place : ℕ) → result ≡ PushTurn.Worn place → IsWorn (knows seat.old) (knows seat.new) place }
-    {
-        let tail = self.see_tail(seat);
-        if tail >= WORN {
-            return PushTurn::Worn(tail);
-        }
-        let entry = self.see_entry::<Brand>(seat, tail);
-        match self.slot_state(tail, entry) {
-            SlotState::Vacant if self.put::<Brand>(seat, tail, entry, v) == entry => {
-                self.move_tail(seat, tail);
-                PushTurn::Done(tail)
-            }
-            SlotState::Filled => {
-                self.move_tail(seat, tail);
-                PushTurn::Lost { tail, entry }
-            }
-            _ => PushTurn::Lost { tail, entry },
-        }
+/// Tries once to put a number that the seat may put last in the line.
+pub fn push_turn<T: RingSteps>(ring: &T, seat: &mut T::Seat, v: u32) -> PushTurn
+    requires own { T.belongs seat.old ring.now }
+    requires may { T.may_put ring.now v (T.knows seat.old) }
+    ensures own { T.belongs seat.new ring.now }
+    ensures done { (place : ℕ) → result ≡ PushTurn.Done place
+        → Tells (T.steps ring.now) (T.knows seat.old) (T.knows seat.new)
+        (IsDone (T.slots ring.now) v (T.events ring.now (T.knows seat.old)) place) }
+    ensures lost { (tail entry : ℕ) → result ≡ PushTurn.Lost tail entry
+        → Tells (T.steps ring.now) (T.knows seat.old) (T.knows seat.new)
+        (IsPushLost (T.slots ring.now) (T.events ring.now (T.knows seat.old)) tail entry) }
+    ensures worn { (place : ℕ) → result ≡ PushTurn.Worn place
+        → Tells (T.steps ring.now) (T.knows seat.old) (T.knows seat.new)
+        (IsWorn (T.slots ring.now) (T.events ring.now (T.knows seat.old)) place) }
+{
+    let size = ring.slot_count() as u64;
+    let tail = ring.see_tail(seat);
+    if tail >= WORN {
+        return PushTurn::Worn(tail);
     }
-
-    /// Tries once to take the first of the line.
-    pub fn pop_turn(&self, seat: &mut RingSeat) -> PopTurn
-        requires own { BelongsTo seat.old self.now }
-        ensures own { BelongsTo seat.new self.now }
-        ensures got { (place value : ℕ) → result ≡ PopTurn.Got place value → IsGot self.now.size (knows seat.old) (knows seat.new) place value }
-        ensures empty { (place entry : ℕ) → result ≡ PopTurn.Empty place entry → IsEmpty self.now.size (knows seat.old) (knows seat.new) place entry }
-        ensures lost { (head entry : ℕ) → result ≡ PopTurn.Lost head entry → IsPopLost self.now.size (knows seat.old) (knows seat.new) head entry }
-    {
-        let head = self.see_head(seat);
-        let entry = self.see_entry::<Brand>(seat, head);
-        match self.slot_state(head, entry) {
-            SlotState::Filled if self.take::<Brand>(seat, head, entry) == head => PopTurn::Got {
-                place: head,
-                value: (entry % self.size as u64) as u32,
-            },
-            SlotState::Vacant => PopTurn::Empty { place: head, entry },
-            _ => PopTurn::Lost { head, entry },
+    let entry = ring.see_entry(seat, tail);
+    match slot_state(size, tail, entry) {
+        SlotState::Vacant if ring.put(seat, tail, entry, v) == entry => {
+            ring.move_tail(seat, tail);
+            PushTurn::Done(tail)
         }
+        SlotState::Filled => {
+            ring.move_tail(seat, tail);
+            PushTurn::Lost { tail, entry }
+        }
+        _ => PushTurn::Lost { tail, entry },
+    }
+}
+
+/// Tries once to take the first of the line.
+pub fn pop_turn<T: RingSteps>(ring: &T, seat: &mut T::Seat) -> PopTurn
+    requires own { T.belongs seat.old ring.now }
+    ensures own { T.belongs seat.new ring.now }
+    ensures got { (place value : ℕ) → result ≡ PopTurn.Got place value
+        → Tells (T.steps ring.now) (T.knows seat.old) (T.knows seat.new)
+        (IsGot (T.slots ring.now) (T.events ring.now (T.knows seat.old)) place value) }
+    ensures empty { (place entry : ℕ) → result ≡ PopTurn.Empty place entry
+        → Tells (T.steps ring.now) (T.knows seat.old) (T.knows seat.new)
+        (IsEmpty (T.slots ring.now) (T.events ring.now (T.knows seat.old)) place entry) }
+    ensures lost { (head entry : ℕ) → result ≡ PopTurn.Lost head entry
+        → Tells (T.steps ring.now) (T.knows seat.old) (T.knows seat.new)
+        (IsPopLost (T.slots ring.now) (T.events ring.now (T.knows seat.old)) head entry) }
+{
+    let size = ring.slot_count() as u64;
+    let head = ring.see_head(seat);
+    let entry = ring.see_entry(seat, head);
+    match slot_state(size, head, entry) {
+        SlotState::Filled if ring.take(seat, head, entry) == head => PopTurn::Got {
+            place: head,
+            value: (entry % size) as u32,
+        },
+        SlotState::Vacant => PopTurn::Empty { place: head, entry },
+        _ => PopTurn::Lost { head, entry },
     }
 }

@@ -1,9 +1,9 @@
 //! Turns that are repeated until one isn't lost.
 ghost use Rattle.std.specs.Prelude.{◌≡◌, ℕ};
+ghost use Rattle.nncq_ring.specs.Turns.{AfterLooks, IsDone, IsEmpty, IsGot, IsWorn, Tells};
 
-use crate::ring::Ring;
-use crate::seat::RingSeat;
-use crate::turns::{PopTurn, PushTurn};
+use crate::single::RingSteps;
+use crate::turns::{PopTurn, PushTurn, pop_turn, push_turn};
 use std::sync::Wait;
 
 /// What a push did.
@@ -24,44 +24,49 @@ pub enum PopEnd {
     Empty { place: u64, entry: u64 },
 }
 
-impl Ring {
-    ghost use Rattle.unit_model.specs.Sharing.{Holds};
-    ghost use Rattle.nncq_ring.specs.Seats.{BelongsTo, knows};
-    ghost use Rattle.nncq_ring.specs.Turns.{AfterLooks, IsDone, IsEmpty, IsGot, IsWorn};
-    ghost use Rattle.nncq_ring.specs.Views.{held_by};
-
-    /// Puts a number that the seat holds last in the line.
-    pub fn push<R: Wait>(&self, rt: &R, seat: &mut RingSeat, v: u32) -> PushEnd
-        requires own { BelongsTo seat.old self.now }
-        requires held { Holds held_by v (knows seat.old) }
-        ensures own { BelongsTo seat.new self.now }
-        ensures done { (place : ℕ) → result ≡ PushEnd.Done place → AfterLooks (knows seat.old) (λ v'. IsDone self.now.size v v' (knows seat.new) place) }
-        ensures worn { (place : ℕ) → result ≡ PushEnd.Worn place → AfterLooks (knows seat.old) (λ v'. IsWorn v' (knows seat.new) place) }
-    {
-        for _ in rt.forever() {
-            match self.push_turn(seat, v) {
-                PushTurn::Done(place) => return PushEnd::Done(place),
-                PushTurn::Worn(place) => return PushEnd::Worn(place),
-                PushTurn::Lost { .. } => {}
-            }
+/// Puts a number that the seat may put last in the line.
+pub fn push<T: RingSteps, R: Wait>(ring: &T, rt: &R, seat: &mut T::Seat, v: u32) -> PushEnd
+    requires own { T.belongs seat.old ring.now }
+    requires may { T.may_put ring.now v (T.knows seat.old) }
+    ensures own { T.belongs seat.new ring.now }
+    ensures done { (place : ℕ) → result ≡ PushEnd.Done place
+        → AfterLooks (T.steps ring.now) (T.knows seat.old)
+        (λ u. Tells (T.steps ring.now) u (T.knows seat.new)
+        (IsDone (T.slots ring.now) v (T.events ring.now u) place)) }
+    ensures worn { (place : ℕ) → result ≡ PushEnd.Worn place
+        → AfterLooks (T.steps ring.now) (T.knows seat.old)
+        (λ u. Tells (T.steps ring.now) u (T.knows seat.new)
+        (IsWorn (T.slots ring.now) (T.events ring.now u) place)) }
+{
+    for _ in rt.forever() {
+        match push_turn(ring, seat, v) {
+            PushTurn::Done(place) => return PushEnd::Done(place),
+            PushTurn::Worn(place) => return PushEnd::Worn(place),
+            PushTurn::Lost { .. } => {}
         }
-        unreachable!()
     }
+    unreachable!()
+}
 
-    /// Takes the first of the line.
-    pub fn pop<R: Wait>(&self, rt: &R, seat: &mut RingSeat) -> PopEnd
-        requires own { BelongsTo seat.old self.now }
-        ensures own { BelongsTo seat.new self.now }
-        ensures got { (place value : ℕ) → result ≡ PopEnd.Got place value → AfterLooks (knows seat.old) (λ v. IsGot self.now.size v (knows seat.new) place value) }
-        ensures empty { (place entry : ℕ) → result ≡ PopEnd.Empty place entry → AfterLooks (knows seat.old) (λ v. IsEmpty self.now.size v (knows seat.new) place entry) }
-    {
-        for _ in rt.forever() {
-            match self.pop_turn(seat) {
-                PopTurn::Got { place, value } => return PopEnd::Got { place, value },
-                PopTurn::Empty { place, entry } => return PopEnd::Empty { place, entry },
-                PopTurn::Lost { .. } => {}
-            }
+/// Takes the first of the line.
+pub fn pop<T: RingSteps, R: Wait>(ring: &T, rt: &R, seat: &mut T::Seat) -> PopEnd
+    requires own { T.belongs seat.old ring.now }
+    ensures own { T.belongs seat.new ring.now }
+    ensures got { (place value : ℕ) → result ≡ PopEnd.Got place value
+        → AfterLooks (T.steps ring.now) (T.knows seat.old)
+        (λ u. Tells (T.steps ring.now) u (T.knows seat.new)
+        (IsGot (T.slots ring.now) (T.events ring.now u) place value)) }
+    ensures empty { (place entry : ℕ) → result ≡ PopEnd.Empty place entry
+        → AfterLooks (T.steps ring.now) (T.knows seat.old)
+        (λ u. Tells (T.steps ring.now) u (T.knows seat.new)
+        (IsEmpty (T.slots ring.now) (T.events ring.now u) place entry)) }
+{
+    for _ in rt.forever() {
+        match pop_turn(ring, seat) {
+            PopTurn::Got { place, value } => return PopEnd::Got { place, value },
+            PopTurn::Empty { place, entry } => return PopEnd::Empty { place, entry },
+            PopTurn::Lost { .. } => {}
         }
-        unreachable!()
     }
+    unreachable!()
 }

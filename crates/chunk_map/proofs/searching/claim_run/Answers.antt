@@ -1,48 +1,59 @@
-use Rattle.std.proofs.Common.{ℕ, ◌<◌, ◌∙◌, refl, sym, ap, subst, arith}
-use Rattle.unit_model.specs.Runs.{chunks_for}
+use Rattle.std.proofs.Common.{ℕ, ◌≡◌, ◌+◌, ◌∷◌, ◌∙◌, ap, refl, sym, subst, arith, List}
+use Rattle.unit_model.specs.Weights.{weigh}
+use Rattle.chunk_map.specs.declared.view.MapEvent.{MapEvent}
 use Rattle.chunk_map.specs.declared.view.MapEvent.TheVariants.{SawOpen}
-use Rattle.chunk_map.specs.declared.view.MapView.{MapView}
 use Rattle.chunk_map.specs.Gains.{SameSearch}
-use Rattle.chunk_map.specs.Looks.{seen_free, may_be_free}
-use Rattle.chunk_map.specs.Runs.{AreFree, IsLowest, NoneBelow}
-use Rattle.chunk_map.specs.Seats.{knows}
-use Rattle.chunk_map.specs.Views.{after}
-use Rattle.chunk_map.proofs.ClaimLaws.{none_allowed}
-use Rattle.chunk_map.proofs.GainLaws.{search_on}
-use Rattle.chunk_map.proofs.map.ChunkMap.claim_run.Goals as goal
+use Rattle.chunk_map.specs.Looks.{Begins}
+use Rattle.chunk_map.specs.Runs.{run_chunks}
+use Rattle.chunk_map.proofs.Claiming.{begins, full_so, run_so}
+use Rattle.chunk_map.proofs.GainLaws.{steps_on, steps_one}
+use Rattle.chunk_map.proofs.searching.claim_run.Goals as goal
 
-pub claim_behind-requires-clause-none : goal.claim_behind-requires-clause-none
-claim_behind-requires-clause-none c =
-    subst (λ (k : ℕ). NoneBelow (seen_free (knows c.claim_in.new.seat).log) k 0 640) c.chunk_count-count.ensures.0 c.in-None.ensures.none
-
-pub returns-in-Some-clause-search : goal.returns-in-Some-clause-search
-returns-in-Some-clause-search c =
+pub claim_among-requires-clause-begins : goal.claim_among-requires-clause-begins
+claim_among-requires-clause-begins g c =
+    let s = g.T.MapSteps in
+    let map = c.args.map.now in
     let opened : ℕ = c.see_open-opened.result in
-    let first : MapView = after (SawOpen opened) (knows c.args.seat.now) in
-    let count = c.see_open-opened.ensures.count in
-    let search : SameSearch first (knows c.claim_in.new.seat) = subst (λ (u : MapView). SameSearch u (knows c.claim_in.new.seat)) c.see_open-opened.ensures.view c.claim_in.ensures.search in
-    (opened, count.0, count.1, count.2, search.searched opened (knows c.args.seat.now).log (refl, refl), omega (arith, c.run_at.ensures.0, count.0), tt)
+    let log : List MapEvent = s.events map (s.knows c.args.seat.now) in
+    let view : s.events map (s.knows c.see_open-opened.new.seat) ≡ SawOpen opened ∷ log = ap (s.events map) c.see_open-opened.ensures.view ∙ g.met.T.MapSteps.logs map (SawOpen opened) (s.knows c.args.seat.now) in
+    subst (Begins opened) (sym view) (begins opened log)
 
-pub returns-in-Some-clause-run : goal.returns-in-Some-clause-run
-returns-in-Some-clause-run c =
-    let count = c.chunk_count-count.ensures.0 in
-    let v = knows c.claim_in.new.seat in
-    let n : ℕ = chunks_for c.args.size in
-    let chunk : ℕ = c.in-Some.chunk in
-    let free : AreFree (seen_free v.log) n 0 chunk = subst (λ (k : ℕ). AreFree (seen_free v.log) k 0 chunk) count c.in-Some.ensures.some in
-    let lowest : IsLowest (may_be_free v.log) n 0 chunk = (
-      λ earlier before. absurd (omega (arith, before)),
-      none_allowed v n 0 chunk c.claim_in.ensures.looked (subst (λ (k : ℕ). NoneBelow (seen_free v.log) k 0 chunk) count c.in-Some.ensures.lowest),
-    ) in
-    let made = c.run_at.ensures in
-    let found : AreFree (seen_free v.log) n c.run_at.result.segment c.run_at.result.chunk × IsLowest (may_be_free v.log) n c.run_at.result.segment c.run_at.result.chunk = subst (λ (s : ℕ). AreFree (seen_free v.log) n s c.run_at.result.chunk × IsLowest (may_be_free v.log) n s c.run_at.result.chunk) (sym made.0) (subst (λ (k : ℕ). AreFree (seen_free v.log) n 0 k × IsLowest (may_be_free v.log) n 0 k) (sym made.1) (free, lowest)) in
-    (made.2, found.0, found.1)
+pub returns-clause-told : goal.returns-clause-told
+returns-clause-told g c =
+    let s = g.T.MapSteps in
+    let map = c.args.map.now in
+    let v = s.knows c.args.seat.now in
+    let u = s.knows c.see_open-opened.new.seat in
+    steps_on s.View (s.after map) v u (s.knows c.claim_among.new.seat) (steps_one s.View (s.after map) (SawOpen c.see_open-opened.result) v u c.see_open-opened.ensures.view) c.claim_among.ensures.told
 
-pub returns-in-None-clause-search : goal.returns-in-None-clause-search
-returns-in-None-clause-search c =
+pub returns-clause-search : goal.returns-clause-search
+returns-clause-search g c =
+    let s = g.T.MapSteps in
+    let map = c.args.map.now in
     let opened : ℕ = c.see_open-opened.result in
-    let first : MapView = after (SawOpen opened) (knows c.args.seat.now) in
+    let log : List MapEvent = s.events map (s.knows c.args.seat.now) in
+    let log' : List MapEvent = s.events map (s.knows c.claim_among.new.seat) in
+    let view : s.events map (s.knows c.see_open-opened.new.seat) ≡ SawOpen opened ∷ log = ap (s.events map) c.see_open-opened.ensures.view ∙ g.met.T.MapSteps.logs map (SawOpen opened) (s.knows c.args.seat.now) in
+    let search : SameSearch (SawOpen opened ∷ log) log' = subst (λ (l : List MapEvent). SameSearch l log') view c.claim_among.ensures.search.0 in
     let count = c.see_open-opened.ensures.count in
-    let early : SameSearch first (knows c.claim_in.new.seat) = subst (λ (u : MapView). SameSearch u (knows c.claim_in.new.seat)) c.see_open-opened.ensures.view c.claim_in.ensures.search in
-    let search = search_on first (knows c.claim_in.new.seat) (knows c.claim_behind.new.seat) early c.claim_behind.ensures.search in
-    (opened, count.0, count.1, count.2, search.searched opened (knows c.args.seat.now).log (refl, refl), c.claim_behind.ensures.segment.0, c.claim_behind.ensures.segment.1)
+    (opened, count.0, count.1, count.2, search.searched opened log (refl, refl), c.claim_among.ensures.search.1, c.claim_among.ensures.search.2)
+
+pub returns-clause-gained : goal.returns-clause-gained
+returns-clause-gained g c =
+    let s = g.T.MapSteps in
+    let map = c.args.map.now in
+    let v = s.knows c.args.seat.now in
+    run_so c.claim_among.result (λ run. (f : ℕ → ℕ) → s.weighs map f (s.knows c.claim_among.new.seat) ≡ weigh f (run_chunks run) + s.weighs map f (s.knows c.see_open-opened.new.seat))
+    (λ run. (f : ℕ → ℕ) → s.weighs map f (s.knows c.claim_among.new.seat) ≡ weigh f (run_chunks run) + s.weighs map f v)
+    (λ run it f. omega (arith, it f, ap (s.weighs map f) c.see_open-opened.ensures.view, g.met.T.MapSteps.looks map f c.see_open-opened.result v))
+    c.claim_among.ensures.gained
+
+pub returns-clause-held : goal.returns-clause-held
+returns-clause-held g c =
+    let s = g.T.MapSteps in
+    let map = c.args.map.now in
+    let v = s.knows c.args.seat.now in
+    full_so c.claim_among.result (λ seen. (f : ℕ → ℕ) → s.weighs map f (s.knows c.claim_among.new.seat) ≡ s.weighs map f (s.knows c.see_open-opened.new.seat))
+    (λ seen. (f : ℕ → ℕ) → s.weighs map f (s.knows c.claim_among.new.seat) ≡ s.weighs map f v)
+    (λ seen it f. it f ∙ ap (s.weighs map f) c.see_open-opened.ensures.view ∙ g.met.T.MapSteps.looks map f c.see_open-opened.result v)
+    c.claim_among.ensures.held

@@ -1,6 +1,6 @@
 use Rattle.std.proofs.Common.{arith}
 use Rattle.chunk_map.proofs.WordChanges.{cleared_here, cleared_there}
-use Rattle.chunk_map.proofs.claim.clear.Goals as goal
+use Rattle.chunk_map.proofs.searching.clear.Goals as goal
 
 pub returns-clause-here : goal.returns-clause-here
 returns-clause-here c = cleared_here c.args.words.now c.args.chunk (omega (arith, c.requires, c.told-words))

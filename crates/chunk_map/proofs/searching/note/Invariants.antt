@@ -1,5 +1,5 @@
 use Rattle.std.proofs.Common.{ℕ, ◌≡◌, ◌≢◌, ◌+◌, ◌*◌, ◌/◌, ◌<◌, length, slice_index}
-use Rattle.chunk_map.proofs.claim.note.Given as goal
+use Rattle.chunk_map.proofs.searching.note.Given as goal
 
 abbrev pub invariant-loop-number : goal.invariant-loop-number
 invariant-loop-number l =

@@ -5,7 +5,7 @@ use Rattle.nncq_ring.specs.Views.{pops_of, pushes_of}
 use Rattle.nncq_ring.specs.Words.{Words, logical_tail}
 use Rattle.nncq_ring.proofs.Exchanges.{tail_cases}
 use Rattle.nncq_ring.proofs.Sharing.{filled_once}
-use Rattle.nncq_ring.proofs.history.a_ring_is_fresh_until_a_push.Goals as goal
+use Rattle.nncq_ring.proofs.rule_laws.a_ring_is_fresh_until_a_push.Goals as goal
 
 pub returns : goal.returns
 returns c key s holds nothing =

@@ -9,7 +9,7 @@ use Rattle.nncq_ring.specs.Rule.{RingHolds}
 use Rattle.nncq_ring.specs.Views.{pops_of, pushes_of}
 use Rattle.nncq_ring.specs.Words.{logical_tail}
 use Rattle.nncq_ring.proofs.Sharing.{filled_once}
-use Rattle.nncq_ring.proofs.history.places_are_used_in_order.Goals as goal
+use Rattle.nncq_ring.proofs.rule_laws.places_are_used_in_order.Goals as goal
 
 filled : (key : ℕ × ℕ) (s : State ℕ RingView) → RingHolds key s → (place : ℕ) → weigh (pushes_of (λ p x. is_number place p)) s.views + below (is_number place) key.1 ≡ below (is_number place) (logical_tail key.0 (ring_words 16 s.words))
 filled key s holds place = filled_once pushes_of pops_of key.0 key.1 (ring_words 16 s.words) s.views holds.part.fine holds.moved holds.emptied (is_number place)

@@ -1,5 +1,5 @@
 use Rattle.std.proofs.Common.{◌<◌, ◌∙◌, sym, arith}
-use Rattle.chunk_map.proofs.MapSteps.{opens_one}
+use Rattle.chunk_map.proofs.Stepping.{opens_one}
 use Rattle.chunk_map.proofs.map.ChunkMap.exchange_open.Goals as goal
 
 pub compare_exchange-requires : goal.compare_exchange-requires

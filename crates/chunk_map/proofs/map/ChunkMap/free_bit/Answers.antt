@@ -1,5 +1,5 @@
 use Rattle.std.proofs.Common.{refl, ap, ◌<◌, ◌*◌, ◌+◌, ◌∙◌, subst, arith}
-use Rattle.chunk_map.proofs.MapSteps.{frees_bit, held_before}
+use Rattle.chunk_map.proofs.Stepping.{frees_bit, held_before}
 use Rattle.chunk_map.proofs.map.ChunkMap.free_bit.Goals as goal
 use Rattle.chunk_map.proofs.Numbers.{index_within}
 use Rattle.unit_model.specs.Sharing.{Holds}

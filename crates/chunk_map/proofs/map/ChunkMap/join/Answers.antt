@@ -1,5 +1,5 @@
 use Rattle.std.proofs.Common.{◌<◌, arith}
-use Rattle.chunk_map.proofs.MapSteps.{joins}
+use Rattle.chunk_map.proofs.Stepping.{joins}
 use Rattle.chunk_map.proofs.map.ChunkMap.join.Goals as goal
 
 pub join_seat-requires : goal.join_seat-requires

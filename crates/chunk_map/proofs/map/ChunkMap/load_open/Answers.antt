@@ -1,6 +1,6 @@
 use Rattle.std.proofs.Common.{◌<◌, ◌∙◌, sym, refl, arith}
-use Rattle.chunk_map.proofs.MapSteps.{sees_open}
-use Rattle.chunk_map.proofs.map.ChunkMap.see_open.Goals as goal
+use Rattle.chunk_map.proofs.Stepping.{sees_open}
+use Rattle.chunk_map.proofs.map.ChunkMap.load_open.Goals as goal
 
 pub load-requires : goal.load-requires
 load-requires c =

@@ -1,6 +1,6 @@
 use Rattle.std.proofs.Common.{arith}
-use Rattle.chunk_map.proofs.MapSteps.{sees_word}
-use Rattle.chunk_map.proofs.map.ChunkMap.see_word.Goals as goal
+use Rattle.chunk_map.proofs.Stepping.{sees_word}
+use Rattle.chunk_map.proofs.map.ChunkMap.load_word.Goals as goal
 use Rattle.chunk_map.proofs.Numbers.{index_within}
 use Rattle.chunk_map.specs.Rule.{table_index}
 

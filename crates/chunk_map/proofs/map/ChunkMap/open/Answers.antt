@@ -1,5 +1,5 @@
 use Rattle.std.proofs.Common.{ℕ, ◌∙◌, List, set, ap}
-use Rattle.chunk_map.proofs.MapSteps.{opens}
+use Rattle.chunk_map.proofs.Stepping.{opens}
 use Rattle.chunk_map.proofs.map.ChunkMap.open.Goals as goal
 
 pub of_words-requires : goal.of_words-requires

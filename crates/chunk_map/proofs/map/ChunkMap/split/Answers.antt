@@ -1,5 +1,5 @@
 use Rattle.std.proofs.Common.{◌<◌, arith}
-use Rattle.chunk_map.proofs.MapSteps.{splits}
+use Rattle.chunk_map.proofs.Stepping.{splits}
 use Rattle.chunk_map.proofs.map.ChunkMap.split.Goals as goal
 
 pub split_seat-requires : goal.split_seat-requires

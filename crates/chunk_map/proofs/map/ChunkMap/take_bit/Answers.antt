@@ -1,5 +1,5 @@
 use Rattle.std.proofs.Common.{arith}
-use Rattle.chunk_map.proofs.MapSteps.{takes_bit}
+use Rattle.chunk_map.proofs.Stepping.{takes_bit}
 use Rattle.chunk_map.proofs.map.ChunkMap.take_bit.Goals as goal
 use Rattle.chunk_map.proofs.Numbers.{index_within}
 

@@ -4,7 +4,7 @@ use Rattle.atomic_table.specs.Table.{Allows, step}
 use Rattle.nncq_ring.specs.Words.{entry_of}
 use Rattle.nncq_ring.specs.Rule.{RingHolds, Puts}
 use Rattle.nncq_ring.proofs.Stepping.{puts}
-use Rattle.nncq_ring.proofs.ring.Ring.put.Goals as goal
+use Rattle.nncq_ring.proofs.ring.Ring.exchange_entry.Goals as goal
 
 pub compare_exchange-requires : goal.compare_exchange-requires
 compare_exchange-requires g c =
@@ -22,7 +22,7 @@ compare_exchange-requires g c =
     let is_entry' : second ≡ entry_of table.key.0 t v = is_entry ∙ ap (λ (m : ℕ). entry_of m t v) (sym sized.0) in
     let before : x / table.key.0 + 1 ≡ t / table.key.0 = subst (λ (m : ℕ). x / m + 1 ≡ t / m) (sym sized.0) c.requires.before in
     let Steps : ℕ → ℕ → ℕ → ℕ → Type 0 = λ size p y i. Allows (RingHolds table.key) table.table_id.slots seat.id seat.me i (λ m. either (m == x) second m) (Puts size p y (step table.table_id.slots i x second mathlib.Core.Option.none) seat.me) in
-    let here : Steps table.key.0 t v (48 + t % table.key.0) = λ s holds homes at fits. puts table.key table.table_id.slots seat.id seat.me.0 seat.me.1 s holds at t x v second c.requires.fresh c.requires.held before c.requires.seen is_entry' in (
+    let here : Steps table.key.0 t v (48 + t % table.key.0) = λ s holds homes at fits. puts table.key table.table_id.slots seat.id seat.me.0 seat.me.1 s holds at t x v second c.requires.fresh c.requires.held before c.requires.looked c.requires.seen is_entry' in (
       c.requires.own,
       there,
       subst (λ (size : ℕ). Steps size g.J.Aim.place g.J.Aim.value c.word_of-word.result) (sized.0 ∙ sym c.requires.aim.0)

@@ -2,7 +2,7 @@ use Rattle.std.proofs.Common.{ℕ, ◌≡◌, ◌<◌, ◌+◌, ◌%◌, ◌∙�
 use Rattle.atomic_table.specs.Table.{Allows, step}
 use Rattle.nncq_ring.specs.Rule.{RingHolds, SeesEntry}
 use Rattle.nncq_ring.proofs.Stepping.{sees_entry}
-use Rattle.nncq_ring.proofs.ring.Ring.see_entry.Goals as goal
+use Rattle.nncq_ring.proofs.ring.Ring.load_entry.Goals as goal
 
 pub load-requires : goal.load-requires
 load-requires g c =

@@ -1,10 +1,15 @@
-use Rattle.std.proofs.Common.{◌<◌, arith}
+use Rattle.std.proofs.Common.{ℕ, ◌<◌, ◌∙◌, sym, subst, arith}
+use Rattle.atomic_table.specs.Table.{Allows, step}
+use Rattle.nncq_ring.specs.Rule.{RingHolds, SeesHead}
 use Rattle.nncq_ring.proofs.Stepping.{sees_head}
-use Rattle.nncq_ring.proofs.ring.Ring.see_head.Goals as goal
+use Rattle.nncq_ring.proofs.ring.Ring.load_head.Goals as goal
 
 pub load-requires : goal.load-requires
-load-requires c =
+load-requires g c =
     let table = c.args.self.now.table.shared in
     let seat = c.args.seat.now.seat in
-    let there : 16 < table.table_id.words = omega (arith, c.args.self.now.sized.1, c.args.self.now.sized.2) in
-    (c.requires.own, there, λ s holds homes at fits. sees_head table.key table.table_id.slots seat.id seat.me.0 seat.me.1 s holds at)
+    let sized = c.args.self.now.sized in
+    let there : 16 < table.table_id.words = omega (arith, sized.1, sized.2) in
+    let Steps : ℕ → Type 0 = λ n. Allows (RingHolds table.key) table.table_id.slots seat.id seat.me 16 (λ m. m) (SeesHead n (step table.table_id.slots 16 0 0 mathlib.Core.Option.none) seat.me) in
+    let here : Steps table.key.0 = λ s holds homes at fits. sees_head table.key table.table_id.slots seat.id seat.me.0 seat.me.1 s holds at in
+    (c.requires.own, there, subst Steps (sized.0 ∙ sym c.requires.aim) here)
