@@ -7,7 +7,7 @@ use Rattle.std.proofs.lemmas.List.Splits.{slice_split_none, slice_split_at}
 use Rattle.percent_encoding.specs.Percent.{percent_decode}
 use Rattle.percent_encoding.proofs.PercentLemmas.{percent_decode-nil, percent_decode_not_percent}
 use Rattle.unit_types.specs.declared.message.Request.{Request}
-use Rattle.path_normal.specs.Path.{segments_of, says_nothing, goes_up, without_last, left_with, segments_left, ends_open, HasNoSlash, IsPlainSegment, joined, path_with, path_of, normal_path_of}
+use Rattle.path_normal.specs.Path.{segments_of, says_nothing, goes_up, without_last, left_with, segments_left, ends_open, HasNoSlash, IsPlainSegment, joined, path_with, joined_segments, normal_path_of}
 use Rattle.path_normal.specs.Variables.{piece_value, variable_value, expansion_of}
 use Rattle.path_normal.proofs.PathLemmas.{without_last_all}
 use Rattle.path_normal.proofs.PieceLemmas.{pieces_at_byte}
@@ -114,23 +114,27 @@ fold_final : (segments left : List (List ℕ)) → fold left_with left (segments
 fold_final [] left = refl
 fold_final (s ∷ more) left = fold_final more (left_with left s)
 
-path_stays : (left : List (List ℕ)) (final : Bool) → All IsKept left → path_of (segments_of (path_with left final)) ≡ path_with left final
+path_stays : (left : List (List ℕ)) (final : Bool) → All IsKept left → joined_segments (segments_of (path_with left final)) ≡ path_with left final
 path_stays [] final kept = refl
 path_stays (s ∷ more) true kept =
     let plain = plain_of_kept (s ∷ more) kept in
-    ap path_of (segments_with s more kept) ∙ (λ i. path_with ((fold_final (s ∷ more) [] ∙ all_stay (s ∷ more) [] plain) i) (last_open (s ∷ more) (Some []) i))
+    ap joined_segments (segments_with s more kept) ∙ (λ i. path_with ((fold_final (s ∷ more) [] ∙ all_stay (s ∷ more) [] plain) i) (last_open (s ∷ more) (Some []) i))
 path_stays (s ∷ more) false kept =
     let plain = plain_of_kept (s ∷ more) kept in
-    ap path_of (segments_without s more kept) ∙ (λ i. path_with (all_stay (s ∷ more) [] plain i) (last_plain more (Some s) (All-head IsPlainSegment s more plain) (All-tail IsPlainSegment s more plain) i))
+    ap joined_segments (segments_without s more kept) ∙ (λ i. path_with (all_stay (s ∷ more) [] plain i) (last_plain more (Some s) (All-head IsPlainSegment s more plain) (All-tail IsPlainSegment s more plain) i))
 
 undecoded : (text : List ℕ) → All (λ b. b ≢ 37) text → percent_decode text ≡ text
 undecoded [] none = percent_decode-nil
 undecoded (b ∷ bs) none =
     percent_decode_not_percent b bs (All-head (λ c. c ≢ 37) b bs none) ∙ ap (λ x. b ∷ x) (undecoded bs (All-tail (λ c. c ≢ 37) b bs none))
 
+pub joins : (raw : List ℕ) → joined_segments (segments_of (normal_path_of raw)) ≡ normal_path_of raw
+joins raw =
+    path_stays (segments_left (segments_of (percent_decode raw))) (ends_open (last_or None (segments_of (percent_decode raw)))) (all_kept (percent_decode raw))
+
 pub stays : (raw : List ℕ) → All (λ b. b ≢ 37) (normal_path_of raw) → normal_path_of (normal_path_of raw) ≡ normal_path_of raw
 stays raw none =
-    ap (λ x. path_of (segments_of x)) (undecoded (normal_path_of raw) none) ∙ path_stays (segments_left (segments_of (percent_decode raw))) (ends_open (last_or None (segments_of (percent_decode raw)))) (all_kept (percent_decode raw))
+    ap (λ x. joined_segments (segments_of x)) (undecoded (normal_path_of raw) none) ∙ joins raw
 
 -- ---- the law of expansions
 

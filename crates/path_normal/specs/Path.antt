@@ -66,12 +66,12 @@ path_with [] final = 47 ∷ []
 path_with (s ∷ more) final = joined (s ∷ more) ++ (if final then 47 ∷ [] else [])
 
 -- the path that a list of segments says
-abbrev pub path_of : List (List ℕ) → List ℕ
-path_of segments = path_with (segments_left segments) (ends_open (last_or None segments))
+abbrev pub joined_segments : List (List ℕ) → List ℕ
+joined_segments segments = path_with (segments_left segments) (ends_open (last_or None segments))
 
 -- the normal path of a raw one
 abbrev pub normal_path_of : List ℕ → List ℕ
-normal_path_of raw = path_of (segments_of (percent_decode raw))
+normal_path_of raw = joined_segments (segments_of (percent_decode raw))
 
 -- the path of some segments became that of what is left with this one
 abbrev pub AddsSegment : List ℕ → List ℕ → List ℕ → Type 0

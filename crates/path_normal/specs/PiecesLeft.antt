@@ -1,11 +1,10 @@
 -- What the iterator over the pieces of a text has left to give.
-use Rattle.std.specs.Prelude.{ℕ, List, [], ◌∷◌, ◌≡◌, true, false, nat_eq, take, drop, Option, MatchOption}
+use Rattle.std.specs.Prelude.{ℕ, List, ◌≡◌, true, false, take, Option, MatchOption}
 use Rattle.std.specs.Borrow.{Bor}
-use Rattle.std.specs.List.{starts_with}
 use Rattle.path_normal.specs.declared.pieces.Piece.{Piece}
 use Rattle.path_normal.specs.declared.pieces.Piece.TheVariants.{Byte, Variable, Stray}
 use Rattle.path_normal.specs.declared.pieces.Pieces.{Pieces}
-use Rattle.path_normal.specs.Variables.{PieceText, byte, variable, stray, pieces_of, run_len}
+use Rattle.path_normal.specs.Variables.{PieceText, byte, variable, stray, pieces_of, run_len, begins_closed_name}
 
 -- what a piece says
 abbrev pub piece_text : Piece → PieceText
@@ -17,8 +16,8 @@ piece_text Stray = stray
 abbrev pub pieces_left : Pieces → List PieceText
 pieces_left s = pieces_of s.rest.now
 
--- the run at the front is a name, where `}` is behind it
+-- the run at the front is a name, where one with `}` behind it is there
 abbrev pub IsNameInBraces : List ℕ → Option (Bor (List ℕ)) → Type 0
 IsNameInBraces inside r =
-    MatchOption r (starts_with nat_eq (drop (run_len inside) inside) (125 ∷ []) ≡ false)
-    (λ name. (starts_with nat_eq (drop (run_len inside) inside) (125 ∷ []) ≡ true) × (name.now ≡ take (run_len inside) inside))
+    MatchOption r (begins_closed_name inside ≡ false)
+    (λ name. (begins_closed_name inside ≡ true) × (name.now ≡ take (run_len inside) inside))

@@ -1,5 +1,5 @@
 -- The variables of a text: `$NAME`, with the longest run of letters, digits and `_`, or `${NAME}`.
-use Rattle.std.specs.Prelude.{ℕ, ◌+◌, ◌^◌, ◌/◌, ◌%◌, ◌==◌, nat_lt, nat_eq, zero, suc, Bool, ◌&&◌, ◌||◌, List, [], ◌∷◌, ◌++◌, length, take, drop, map, codes, Option, Some, None, option_map, if◌then◌else◌}
+use Rattle.std.specs.Prelude.{ℕ, ◌+◌, ◌^◌, ◌/◌, ◌%◌, ◌==◌, ◌≤◌, ◌≢◌, nat_lt, nat_eq, zero, suc, Bool, ◌&&◌, ◌||◌, List, [], ◌∷◌, ◌++◌, length, take, drop, map, codes, Option, Some, None, option_map, if◌then◌else◌}
 use Rattle.std.specs.List.{flat_map, list_any, prefix_len, starts_with}
 use Rattle.std.specs.Char.{is_ascii_alphanumeric}
 use Rattle.std.specs.Str.{bytes_eq, str_to_ascii_lowercase}
@@ -24,15 +24,22 @@ is_word b = is_ascii_alphanumeric b || b == 95
 abbrev pub run_len : List ℕ → ℕ
 run_len text = prefix_len is_word text
 
--- the piece that a `$` begins, and how many bytes behind the `$` belong to it
+-- the text begins with a name: a run that isn't empty
+abbrev pub begins_name : List ℕ → Bool
+begins_name text = nat_lt 0 (run_len text)
+
+-- the text begins with a name and a `}` behind it
+abbrev pub begins_closed_name : List ℕ → Bool
+begins_closed_name text = begins_name text && starts_with nat_eq (drop (run_len text) text) (125 ∷ [])
+
+-- the piece that a `$` begins, and how many bytes behind the `$` belong to it: a `$` with no name behind it, bare or in
+-- braces, is stray
 abbrev pub braced : List ℕ → PieceText × ℕ
 braced text =
-    if starts_with nat_eq (drop (run_len text) text) (125 ∷ [])
-    then (variable (take (run_len text) text), run_len text + 2)
-    else (stray, 0)
+    if begins_closed_name text then (variable (take (run_len text) text), run_len text + 2) else (stray, 0)
 
 abbrev pub bare : List ℕ → PieceText × ℕ
-bare text = (variable (take (run_len text) text), run_len text)
+bare text = if begins_name text then (variable (take (run_len text) text), run_len text) else (stray, 0)
 
 abbrev pub behind_dollar : List ℕ → PieceText × ℕ
 behind_dollar text = if starts_with nat_eq text (123 ∷ []) then braced (drop 1 text) else bare text
@@ -164,6 +171,14 @@ escaped_byte b = if nat_lt b 33 || nat_lt 126 b then percent_encode_byte b else 
 
 abbrev pub escaped : List ℕ → List ℕ
 escaped value = flat_map escaped_byte value
+
+-- a byte that is seen: 0x21 to 0x7E
+abbrev pub IsVisible : ℕ → Type 0
+IsVisible b = (33 ≤ b) × (b ≤ 126)
+
+-- a byte that neither ends a line nor a text: no NUL, LF or CR
+abbrev pub IsInLine : ℕ → Type 0
+IsInLine b = (b ≢ 0) × (b ≢ 10) × (b ≢ 13)
 
 -- the same, the bytes of values escaped
 abbrev pub escaped_expansion_of : List ℕ → Request → List ℕ

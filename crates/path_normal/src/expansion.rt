@@ -23,8 +23,8 @@ pub struct Expansion<'a> {
     request: &'a Request,
 }
 
-/// The expansion of `text` in `request`: the value of each variable stands in its place, and a `$` that begins no
-/// variable stays.
+/// The expansion of `text` in `request`: the value of each variable stands in its place, and a stray `$` stays. A
+/// variable that isn't of the set has no value.
 pub fn expansion_in<'a>(text: &'a [u8], request: &'a Request) -> Expansion<'a>
     ensures { expansion_left result ≡ expansion_of text.now request.now }
 {

@@ -13,7 +13,8 @@ mod value;
 
 pub use expansion::{Expansion, expand, expansion_in};
 pub use laws::{
-    normal_path_begins_with_slash, normal_path_has_plain_segments, normal_path_stays,
+    escaped_expansions_stay_in_line, escaped_values_are_visible, normal_path_begins_with_slash,
+    normal_path_has_plain_segments, normal_path_joins_its_segments, normal_path_stays,
     plain_text_stays,
 };
 pub use normal::normal_path;

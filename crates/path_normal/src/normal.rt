@@ -1,6 +1,6 @@
 //! Paths in their normal form.
 ghost use Rattle.std.specs.Prelude.{◌≡◌, IfOk, OnOk};
-ghost use Rattle.path_normal.specs.Path.{says_nothing, goes_up, is_open, normal_path_of, path_of, segments_of, LosesSegment, AddsSegment, EndsPath};
+ghost use Rattle.path_normal.specs.Path.{says_nothing, goes_up, is_open, normal_path_of, joined_segments, segments_of, LosesSegment, AddsSegment, EndsPath};
 
 use crate::cut::cut;
 use percent_encoding::percent_decode;
@@ -18,12 +18,12 @@ pub fn normal_path(alloc: Global, raw: &[u8]) -> Result<Bytes, AllocError>
 {
     let mut decoded = Vec::with_capacity(alloc, raw.len())?;
     percent_decode(raw).append_to(&mut decoded)?;
-    Ok(Bytes::of(path_of(alloc, &decoded)?))
+    Ok(Bytes::of(joined_segments(alloc, &decoded)?))
 }
 
 /// The path that the segments of a decoded text say.
-fn path_of(alloc: Global, decoded: &[u8]) -> Result<Vec<u8>, AllocError>
-    ensures { IfOk result (λ path. path.items ≡ path_of (segments_of decoded.now)) }
+fn joined_segments(alloc: Global, decoded: &[u8]) -> Result<Vec<u8>, AllocError>
+    ensures { IfOk result (λ path. path.items ≡ joined_segments (segments_of decoded.now)) }
 {
     let mut path = Vec::with_capacity(alloc, decoded.len())?;
     let mut rest = Some(decoded);

@@ -10,7 +10,7 @@ pub enum Piece<'a> {
     Byte(u8),
     /// A variable, by its name.
     Variable(&'a [u8]),
-    /// A `$` that begins no variable.
+    /// A `$` that begins no variable: no name stands behind it, neither bare nor in braces.
     Stray,
 }
 
@@ -20,7 +20,8 @@ pub struct Pieces<'a> {
     rest: &'a [u8],
 }
 
-/// The pieces of a text: a variable is `$NAME`, with the longest run of letters, digits and `_`, or `${NAME}`.
+/// The pieces of a text: a variable is `$NAME`, with the longest run of letters, digits and `_`, or `${NAME}`, where NAME
+/// isn't empty. Each other `$` is stray.
 pub fn pieces_in(text: &[u8]) -> Pieces<'_>
     ensures { pieces_left result ≡ pieces_of text.now }
 {
@@ -59,8 +60,10 @@ fn behind_dollar(text: &[u8]) -> (Piece<'_>, &[u8])
             None => (Piece::Stray, text),
         };
     }
-    let len = run_len(text);
-    (Piece::Variable(&text[..len]), &text[len..])
+    match run_len(text) {
+        0 => (Piece::Stray, text),
+        len => (Piece::Variable(&text[..len]), &text[len..]),
+    }
 }
 
 /// The name in front of a `}`, behind a `{`.
@@ -68,7 +71,7 @@ fn name_in_braces(inside: &[u8]) -> Option<&[u8]>
     ensures { IsNameInBraces inside.now result }
 {
     let len = run_len(inside);
-    if inside[len..].starts_with(b"}") {
+    if len > 0 && inside[len..].starts_with(b"}") {
         Some(&inside[..len])
     } else {
         None

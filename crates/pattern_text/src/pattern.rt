@@ -97,12 +97,7 @@ impl TextPattern {
         requires ends { IsFinite (I.remaining text) }
         ensures { (bytes : List ℕ) → AlwaysYields I.next_gives (λ b. b) text bytes → result ≡ holds_of case self.now bytes }
     {
-        let pattern = self.text.as_slice();
-        if pattern.starts_with(b"!") {
-            matches(&pattern[1..], text, case)
-        } else {
-            matches(pattern, text, case)
-        }
+        matches(self.plain(), text, case)
     }
 }
 

@@ -3,7 +3,7 @@ use Rattle.std.specs.List.{last_or}
 use Rattle.path_normal.specs.Cut.{parts_behind}
 use Rattle.path_normal.specs.Path.{left_with}
 use Rattle.path_normal.proofs.PathLemmas.{left_clean}
-use Rattle.path_normal.proofs.normal.path_of.Goals as goal
+use Rattle.path_normal.proofs.normal.joined_segments.Goals as goal
 
 pub loop-rest-preserved : goal.loop-rest-preserved
 loop-rest-preserved c =

@@ -3,7 +3,7 @@ use Rattle.std.specs.List.{last_or}
 use Rattle.path_normal.specs.Cut.{parts_behind}
 use Rattle.path_normal.specs.Path.{HasNoSlash, joined, left_with, segments_left, segments_of, ends_open}
 use Rattle.path_normal.proofs.PathLemmas.{text_length}
-use Rattle.path_normal.proofs.normal.path_of.Given as goal
+use Rattle.path_normal.proofs.normal.joined_segments.Given as goal
 
 abbrev pub invariant-loop-rest : goal.invariant-loop-rest
 invariant-loop-rest l = record {
