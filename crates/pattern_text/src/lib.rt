@@ -5,7 +5,6 @@
 mod case;
 mod glob;
 mod pattern;
-mod slice;
 
 ghost use Rattle.std.specs.Prelude.{◌≡◌, ◌↔◌, List, ℕ, true};
 ghost use Rattle.pattern_text.specs.TextPattern.{TextMatches, text_matches};

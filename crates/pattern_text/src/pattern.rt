@@ -7,10 +7,9 @@ ghost use Rattle.pattern_text.specs.TextPattern.{is_negated, plain_part, list_ma
 
 use crate::case::{Case, is_same};
 use crate::glob::matches;
-use crate::slice::SliceBytes;
 use std::alloc::{AllocError, Global};
 use std::marker::Model;
-use unit_types::Bytes;
+use unit_types::{Bytes, SliceBytes};
 
 /// A pattern of a text: `!` or not, then literal parts with `*` between them, each of which stands for any bytes, also
 /// none. Contracts see the text that it was made from.
@@ -86,7 +85,7 @@ impl TextPattern {
         ensures { result ≡ holds_of case self.now text.now }
     {
         if self.has_star {
-            return self.holds(SliceBytes { rest: text }, case);
+            return self.holds(SliceBytes::of(text), case);
         }
         is_same(text, self.plain(), case)
     }
@@ -95,7 +94,8 @@ impl TextPattern {
     fn holds<I: Iterator<Item = u8> + Copy>(&self, text: I, case: Case) -> bool
         requires can { I.can_next text }
         requires ends { IsFinite (I.remaining text) }
-        ensures { (bytes : List ℕ) → AlwaysYields I.next_gives (λ b. b) text bytes → result ≡ holds_of case self.now bytes }
+        ensures { (bytes : List ℕ) → AlwaysYields I.next_gives (λ b. b) text bytes
+            → result ≡ holds_of case self.now bytes }
     {
         matches(self.plain(), text, case)
     }
@@ -152,7 +152,8 @@ impl TextPatterns {
     pub fn matches_bytes<I: Iterator<Item = u8> + Copy>(&self, text: I) -> bool
         requires can { I.can_next text }
         requires ends { IsFinite (I.remaining text) }
-        ensures { (bytes : List ℕ) → AlwaysYields I.next_gives (λ b. b) text bytes → result ≡ list_matches self.now bytes }
+        ensures { (bytes : List ℕ) → AlwaysYields I.next_gives (λ b. b) text bytes
+            → result ≡ list_matches self.now bytes }
     {
         self.holds(text, Case::Exact)
     }
@@ -161,7 +162,8 @@ impl TextPatterns {
     pub fn matches_bytes_ignoring_case<I: Iterator<Item = u8> + Copy>(&self, text: I) -> bool
         requires can { I.can_next text }
         requires ends { IsFinite (I.remaining text) }
-        ensures { (bytes : List ℕ) → AlwaysYields I.next_gives (λ b. b) text bytes → result ≡ list_matches_ignoring_case self.now bytes }
+        ensures { (bytes : List ℕ) → AlwaysYields I.next_gives (λ b. b) text bytes
+            → result ≡ list_matches_ignoring_case self.now bytes }
     {
         self.holds(text, Case::Ignored)
     }
@@ -186,7 +188,8 @@ impl TextPatterns {
     fn holds<I: Iterator<Item = u8> + Copy>(&self, text: I, case: Case) -> bool
         requires can { I.can_next text }
         requires ends { IsFinite (I.remaining text) }
-        ensures { (bytes : List ℕ) → AlwaysYields I.next_gives (λ b. b) text bytes → result ≡ list_holds case self.now bytes }
+        ensures { (bytes : List ℕ) → AlwaysYields I.next_gives (λ b. b) text bytes
+            → result ≡ list_holds case self.now bytes }
     {
         (self.some_plain_holds(text, case) || self.all_negated())
             && !self.some_negated_holds(text, case)
@@ -195,7 +198,8 @@ impl TextPatterns {
     fn some_plain_holds<I: Iterator<Item = u8> + Copy>(&self, text: I, case: Case) -> bool
         requires can { I.can_next text }
         requires ends { IsFinite (I.remaining text) }
-        ensures { (bytes : List ℕ) → AlwaysYields I.next_gives (λ b. b) text bytes → result ≡ list_any (λ p. not (is_negated p) && holds_of case p bytes) self.now }
+        ensures { (bytes : List ℕ) → AlwaysYields I.next_gives (λ b. b) text bytes
+            → result ≡ list_any (λ p. not (is_negated p) && holds_of case p bytes) self.now }
     {
         for pattern in &self.list {
             if pattern.is_negated() {
@@ -217,7 +221,8 @@ impl TextPatterns {
     fn some_negated_holds<I: Iterator<Item = u8> + Copy>(&self, text: I, case: Case) -> bool
         requires can { I.can_next text }
         requires ends { IsFinite (I.remaining text) }
-        ensures { (bytes : List ℕ) → AlwaysYields I.next_gives (λ b. b) text bytes → result ≡ list_any (λ p. is_negated p && holds_of case p bytes) self.now }
+        ensures { (bytes : List ℕ) → AlwaysYields I.next_gives (λ b. b) text bytes
+            → result ≡ list_any (λ p. is_negated p && holds_of case p bytes) self.now }
     {
         for pattern in &self.list {
             if pattern.is_negated() && pattern.holds(text, case) {
