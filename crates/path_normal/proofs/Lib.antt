@@ -1,4 +1,3 @@
-pub mod CutLemmas
 pub mod PathLemmas
 pub mod QueryLemmas
 pub mod PieceLemmas

@@ -84,7 +84,9 @@ pub fn expand(
     request: &Request,
     escapes: bool,
 ) -> Result<Bytes, AllocError>
-    ensures { IfOk result (λ bytes. bytes ≡ (if escapes then escaped_expansion_of text.now request.now else expansion_of text.now request.now)) }
+    ensures { IfOk result (λ bytes. bytes ≡ (if escapes
+        then escaped_expansion_of text.now request.now
+        else expansion_of text.now request.now)) }
 {
     let mut out = Vec::with_capacity(alloc, text.len())?;
     for piece in pieces_in(text) {

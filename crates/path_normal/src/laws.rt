@@ -12,7 +12,9 @@ pub fn normal_path_begins_with_slash()
 /// Between its slashes a normal path has no empty segment, no `.` and no `..`, but for the empty text behind a final
 /// `/`.
 pub fn normal_path_has_plain_segments()
-    ensures { (raw : List ℕ) → (left : List (List ℕ)) × All IsPlainSegment left × ((segments_of (normal_path_of raw) ≡ [] ∷ left) ⊎ (segments_of (normal_path_of raw) ≡ [] ∷ (left ++ [] ∷ []))) }
+    ensures { (raw : List ℕ) → (left : List (List ℕ)) × All IsPlainSegment left
+        × ((segments_of (normal_path_of raw) ≡ [] ∷ left)
+        ⊎ (segments_of (normal_path_of raw) ≡ [] ∷ (left ++ [] ∷ []))) }
 {}
 
 /// The segments of a normal path, joined, are that path, also where it has a `%`.
@@ -22,7 +24,8 @@ pub fn normal_path_joins_its_segments()
 
 /// A normal path without `%` is its own normal path.
 pub fn normal_path_stays()
-    ensures { (raw : List ℕ) → All (λ b. b ≢ 37) (normal_path_of raw) → normal_path_of (normal_path_of raw) ≡ normal_path_of raw }
+    ensures { (raw : List ℕ) → All (λ b. b ≢ 37) (normal_path_of raw)
+        → normal_path_of (normal_path_of raw) ≡ normal_path_of raw }
 {}
 
 /// An escaped value has bytes 0x21 to 0x7E alone.
@@ -38,5 +41,6 @@ pub fn escaped_expansions_stay_in_line()
 
 /// A text without `$` expands to itself.
 pub fn plain_text_stays()
-    ensures { (text : List ℕ) (request : Request) → All (λ b. b ≢ 36) text → expansion_of text request ≡ text }
+    ensures { (text : List ℕ) (request : Request) → All (λ b. b ≢ 36) text
+        → expansion_of text request ≡ text }
 {}

@@ -129,7 +129,7 @@ fn request(alloc: Global) -> Result<Request, AllocError> {
 #[test]
 fn expansions(rt: HostRuntime) {
     let request = request(rt.alloc()).expect(&rt, "memory");
-    let rows: [(&[u8], bool, &[u8]); 14] = [
+    let rows: [(&[u8], bool, &[u8]); 15] = [
         (b"https://$host$request_uri", true, b"https://a/"),
         (b"no variable", true, b"no variable"),
         (b"", false, b""),
@@ -144,6 +144,7 @@ fn expansions(rt: HostRuntime) {
         (b"$header_x_a$header_X_A-a", false, b"oneone-a"),
         (b"$dollar$dollar{host}", true, b"$${host}"),
         (b"$hosts$request_ur", false, b""),
+        (b"$, ${} and ${host", true, b"$, ${} and ${host"),
     ];
     for (text, escapes, wanted) in rows {
         let bytes = expand(rt.alloc(), text, &request, escapes).expect(&rt, "memory");

@@ -111,7 +111,8 @@ fn next_decoded(text: &[u8]) -> Option<(u8, &[u8])>
 /// The byte of the escape that the text begins with, where it begins with one.
 fn escape_at(text: &[u8]) -> Option<u8>
     ensures none { IfNone result (KeepsFirst (map spaced text.now)) }
-    ensures some { IfSome result (λ byte. (3 ≤ length text.now) × (query_text text.now ≡ byte ∷ query_text (drop 3 text.now))) }
+    ensures some { IfSome result (λ byte. (3 ≤ length text.now)
+        × (query_text text.now ≡ byte ∷ query_text (drop 3 text.now))) }
 {
     let [b'%', high, low, ..] = text else {
         return None;

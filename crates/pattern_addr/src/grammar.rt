@@ -1,6 +1,8 @@
 //! The parts of an address pattern, read from a text.
-ghost use Rattle.std.specs.Prelude.{◌≡◌, ◌≤◌, option_map, IfSome};
-ghost use Rattle.pattern_addr.specs.AddressPattern.{cut, number_of, address_of, block_of, block_at, span_at, single_at, addresses_of, port_of, port_span_at, single_port_at, ports_of};
+ghost use Rattle.std.specs.Prelude.{◌≡◌, ◌≤◌, IfSome};
+ghost use Rattle.pattern_addr.specs.AddressPattern.{number_of, address_of, block_of, block_at, span_at, single_at, addresses_of, port_of, port_span_at, single_port_at, ports_of};
+
+use unit_types::cut;
 
 /// The numbers from the first one to the last one; none where the first is above the last.
 #[derive(Debug, Clone, Copy, Drop)]
@@ -18,14 +20,6 @@ impl Range {
     {
         self.first <= number && number <= self.last
     }
-}
-
-/// The text in front of the first separator and the text behind it, where there is a separator.
-pub(crate) fn cut(text: &[u8], separator: u8) -> Option<(&[u8], &[u8])>
-    ensures { option_map (λ parts. (parts.0.now, parts.1.now)) result ≡ cut separator text.now }
-{
-    let at = text.iter().position(|b| *b == separator)?;
-    Some((&text[..at], &text[at + 1..]))
 }
 
 /// The decimal number of at most `limit` that the text spells.

@@ -2,9 +2,9 @@
 ghost use Rattle.std.specs.Prelude.{◌≡◌};
 ghost use Rattle.pattern_addr.specs.AddressPattern.{plain_pattern_of, with_ports, without_ports};
 
-use crate::grammar::{Range, addresses_of, cut, ports_of};
+use crate::grammar::{Range, addresses_of, ports_of};
 use std::marker::Model;
-use unit_types::Addr;
+use unit_types::{Addr, cut};
 
 /// A pattern of IPv4 addresses and ports, as a configuration's `source` and `destination` have them.
 ///

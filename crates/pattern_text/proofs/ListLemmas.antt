@@ -1,14 +1,11 @@
 -- Lemmas on lists of patterns.
 use Rattle.std.proofs.Common.{◌≡◌, ℕ, Bool, true, false, not, ◌&&◌, ◌||◌, eqb, cond, List, [], ◌∷◌, map, drop, sym, refl, ap, ◌∙◌, map-id, arith}
 use Rattle.std.specs.Bool.{beq}
-use Rattle.std.specs.Iterator.{AlwaysYields, YieldsFirst}
 use Rattle.std.specs.Char.{to_ascii_lowercase}
 use Rattle.std.specs.Str.{str_to_ascii_lowercase}
 use Rattle.std.specs.List.{list_any, list_all}
 use Rattle.std.proofs.lemmas.Bool.Decides.{nat_tests}
 use Rattle.std.proofs.lemmas.List.Folds.{list_all-map}
-use Rattle.std.proofs.lemmas.Iterator.Consumers.{YieldsList-from_first}
-use Rattle.pattern_text.specs.declared.slice.SliceBytes.{SliceBytes}
 use Rattle.pattern_text.specs.declared.case.Case.TheVariants.{Exact, Ignored}
 use Rattle.pattern_text.specs.Case.{folded_all, holds_of, list_holds}
 use Rattle.pattern_text.specs.TextPattern.{is_negated, plain_part, text_matches, list_matches, list_matches_ignoring_case}
@@ -90,8 +87,3 @@ list_of_one pattern bytes = by_both (is_negated pattern) (text_matches (plain_pa
 
 pub holds_exactly : (pattern bytes : List ℕ) → holds_of Exact pattern bytes ≡ text_matches (plain_part pattern) bytes
 holds_exactly pattern bytes = λ i. text_matches (exactly (plain_part pattern) i) (exactly bytes i)
-
--- ---- the bytes of a slice
-
-pub slice_gives : (s : SliceBytes) → AlwaysYields (YieldsFirst (λ (t : SliceBytes). t.rest.now)) (λ b. b) s s.rest.now
-slice_gives s = (YieldsList-from_first (λ b. b) (λ (t : SliceBytes). t.rest.now) {s = s} s.rest.now refl).runs

@@ -2,7 +2,7 @@
 use Rattle.std.proofs.Common.{◌≡◌, ℕ, Bool, true, false, ◌&&◌, ◌||◌, eqb, cond, List, [], ◌∷◌, drop, sym, refl, ap, ◌∙◌, map-id, arith}
 use Rattle.std.specs.Str.{bytes_eq}
 use Rattle.std.specs.Char.{to_ascii_lowercase}
-use Rattle.std.proofs.lemmas.Bool.{cond-false, both_ways, and_parts, eq-eqb, eqb-true}
+use Rattle.std.proofs.lemmas.Bool.{cond-false, both_ways}
 use Rattle.std.proofs.lemmas.Bool.Decides.{nat_tests}
 use Rattle.pattern_text.specs.declared.case.Case.{Case}
 use Rattle.pattern_text.specs.declared.case.Case.TheVariants.{Exact, Ignored}
@@ -52,13 +52,3 @@ holds_without_star case pattern text none =
 pub same_exactly : (case : Case) → case ≡ Exact → (text other : List ℕ) → bytes_eq text other ≡ bytes_eq (folded_all case text) (folded_all case other)
 same_exactly case exact text other =
     (λ i. bytes_eq (sym (map-id text) i) (sym (map-id other) i)) ∙ ap (λ k. bytes_eq (folded_all k text) (folded_all k other)) (sym exact)
-
--- the same bytes are compared as the same
-pub same_folded : (case : Case) (text other : List ℕ) → bytes_eq text other ≡ true → true ≡ bytes_eq (folded_all case text) (folded_all case other)
-same_folded case [] [] same = refl
-same_folded case [] (y ∷ ys) same = sym same
-same_folded case (x ∷ xs) [] same = sym same
-same_folded case (x ∷ xs) (y ∷ ys) same =
-    let parts = and_parts (eqb x y) (bytes_eq xs ys) same in
-    let here : eqb (folded case x) (folded case y) ≡ true = eq-eqb (folded case x) (folded case y) (ap (folded case) (eqb-true x y parts.0)) in
-    same_folded case xs ys parts.1 ∙ ap (λ t. t && bytes_eq (folded_all case xs) (folded_all case ys)) (sym here)

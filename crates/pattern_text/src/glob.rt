@@ -21,7 +21,8 @@ enum Front<'a, I> {
 fn pass_part<I: Iterator<Item = u8> + Copy>(pattern: &[u8], mut text: I, case: Case) -> Front<'_, I>
     requires can { I.can_next text }
     requires ends { IsFinite (I.remaining text) }
-    ensures front { (bytes : List ℕ) → AlwaysYields I.next_gives (λ b. b) text bytes → IsFront I.next_gives case pattern.now bytes result }
+    ensures front { (bytes : List ℕ) → AlwaysYields I.next_gives (λ b. b) text bytes
+        → IsFront I.next_gives case pattern.now bytes result }
     ensures nearer { IsNearer I.can_next I.remaining pattern.now text result }
 {
     for (at, wanted) in pattern.iter().enumerate() {
@@ -52,7 +53,8 @@ fn matches_some_end<I: Iterator<Item = u8> + Copy>(
 ) -> bool
     requires can { I.can_next text }
     requires ends { IsFinite (I.remaining text) }
-    ensures { (bytes : List ℕ) → AlwaysYields I.next_gives (λ b. b) text bytes → result ≡ some_end (text_matches (folded_all case pattern.entry.now)) (folded_all case bytes) }
+    ensures { (bytes : List ℕ) → AlwaysYields I.next_gives (λ b. b) text bytes
+        → result ≡ some_end (text_matches (folded_all case pattern.entry.now)) (folded_all case bytes) }
 {
     while !pattern.is_empty() {
         match pass_part(pattern, text, case) {
@@ -74,7 +76,8 @@ fn matches_some_end<I: Iterator<Item = u8> + Copy>(
 pub(crate) fn matches<I: Iterator<Item = u8> + Copy>(pattern: &[u8], text: I, case: Case) -> bool
     requires can { I.can_next text }
     requires ends { IsFinite (I.remaining text) }
-    ensures { (bytes : List ℕ) → AlwaysYields I.next_gives (λ b. b) text bytes → result ≡ text_matches (folded_all case pattern.now) (folded_all case bytes) }
+    ensures { (bytes : List ℕ) → AlwaysYields I.next_gives (λ b. b) text bytes
+        → result ≡ text_matches (folded_all case pattern.now) (folded_all case bytes) }
 {
     match pass_part(pattern, text, case) {
         Front::Whole => true,

@@ -5,15 +5,20 @@
 mod case;
 mod glob;
 mod pattern;
-mod slice;
+mod patterns;
+mod subject;
 
 ghost use Rattle.std.specs.Prelude.{◌≡◌, ◌↔◌, List, ℕ, true};
 ghost use Rattle.pattern_text.specs.TextPattern.{TextMatches, text_matches};
 
-pub use pattern::{TextPattern, TextPatterns};
+pub use pattern::TextPattern;
+pub use patterns::TextPatterns;
 
 /// A pattern without `!` matches exactly the texts that can be cut into its literal parts, in order, with any bytes,
 /// also none, at each star.
 pub fn matches_where_cut()
     ensures { (pattern text : List ℕ) → (text_matches pattern text ≡ true) ↔ TextMatches pattern text }
 {}
+
+#[cfg(test)]
+mod tests;

@@ -1,4 +1,6 @@
+//! Rows of patterns and lists of them.
 use super::*;
+use std::alloc::{AllocError, Global};
 
 fn patterns_of(alloc: Global, texts: &[&[u8]]) -> Result<TextPatterns, AllocError> {
     let mut list = Vec::new(alloc);
