@@ -4,6 +4,7 @@ use Rattle.std.specs.Prelude.{sum_by}
 use Rattle.std.specs.List.{All}
 use Rattle.std.proofs.lemmas.List.Elements.{All-nil, All-cons}
 use Rattle.std.proofs.lemmas.List.Sums.{sum_by-cons}
+use Rattle.unit_types.specs.Limits.{record_limit}
 use Rattle.unit_types.specs.Record.{reply_record}
 use Rattle.unit_types.specs.declared.field.Field.{Field}
 use Rattle.unit_types.specs.declared.message.Reply.{Reply}
@@ -21,7 +22,7 @@ few_fields : (fields : List Field) → length fields ≤ sum_by field_size field
 few_fields [] = omega arith
 few_fields (field ∷ fields) = omega (arith, sum_by-cons field_size field fields, few_fields fields)
 
-pub is_recordable : (reply : Reply) → length (reply_record reply) ≤ 1073741824 → IsRecordableReply reply
+pub is_recordable : (reply : Reply) → length (reply_record reply) ≤ record_limit → IsRecordableReply reply
 is_recordable reply le =
     let size : length (reply_record reply) ≡ reply_record_size reply = reply_length reply in
     record {
@@ -30,9 +31,12 @@ is_recordable reply le =
     }
 
 -- it has few parts, and a part few pieces
-pub few_parts : (bytes : List ℕ) → length bytes ≤ 1073741824 → stretch_count part_size bytes < 2 ^ 32
+pub few_parts : (bytes : List ℕ) → length bytes ≤ record_limit → stretch_count part_size bytes < 2 ^ 32
 unfolding stretch_count
 few_parts bytes le = omega (arith, le)
+
+pub next_fits : (bytes : List ℕ) (next : ℕ) → length bytes ≤ record_limit → next < stretch_count part_size bytes → next + 1 < 2 ^ 32
+next_fits bytes next le lt = let few : stretch_count part_size bytes < 2 ^ 32 = few_parts bytes le in omega (arith, few, lt)
 
 pub few_pieces : (bytes : List ℕ) → length bytes ≤ part_size → stretch_count piece_size bytes < 2 ^ 32
 unfolding stretch_count

@@ -1,4 +1,6 @@
+pub mod Accepted
 pub mod Asks
+pub mod Collected
 pub mod Cuts
 pub mod Fits
 pub mod Left

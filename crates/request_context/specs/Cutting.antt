@@ -18,6 +18,11 @@ pub record PartsValue : Type 0 where
   pub asked : Asked
   pub next : ℕ
 
+-- what a collector of a reply has: what was asked, and the number of the part that it waits for
+pub record Collected : Type 0 where
+  pub asked : Asked
+  pub next : ℕ
+
 -- the record of the reply to what was asked, where `reply_of` is what the handlers mean
 abbrev pub record_to : (List ℕ → Request → Reply) → Asked → List ℕ
 record_to reply_of asked = reply_record (reply_of asked.name asked.request)

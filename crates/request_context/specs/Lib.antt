@@ -1,3 +1,4 @@
+pub mod Collecting
 pub mod Cutting
 pub mod Parcels
 pub mod Parts

@@ -1,6 +1,7 @@
 -- Bytes in stretches of one length, of which the last is shorter or equal.
 use Rattle.std.specs.Prelude.{◌≡◌, ℕ, ◌+◌, ◌-◌, ◌*◌, ◌/◌, ◌<◌, List, [], length, take, drop, min, map, slice_index_or}
 use Rattle.std.specs.List.{concat, range_with_len}
+use Rattle.unit_types.specs.Limits.{chunk_size}
 
 -- how many stretches there are
 unfoldable pub stretch_count : ℕ → List ℕ → ℕ
@@ -20,7 +21,7 @@ part_size = 262144
 
 -- the bytes of a piece, of which one chunk holds one
 abbrev pub piece_size : ℕ
-piece_size = 16384
+piece_size = chunk_size
 
 -- a reply record goes in parts
 abbrev pub parts_of : List ℕ → List (List ℕ)

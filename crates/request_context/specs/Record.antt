@@ -28,6 +28,10 @@ request_record asked =
     ++ (addr_bytes asked.request.from ++ (addr_bytes asked.request.to
     ++ (field_list_bytes asked.request.fields ++ length_prefixed asked.request.body)))))
 
+-- what is asked under a stream, of the handler of that name
+abbrev pub asked_with : ℕ → List ℕ → Request → Asked
+asked_with stream name request = record { stream = stream; name = name; request = request }
+
 -- ---- what has a record
 
 -- four bytes hold the length

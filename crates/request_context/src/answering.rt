@@ -9,12 +9,12 @@ use crate::asked::Asked;
 use crate::piece::{Parcel, Piece};
 use crate::pieces::Pieces;
 use crate::reply_parts::Parts;
-use crate::stretches::{PART_SIZE, PIECE_SIZE, count_stretches, stretch};
+use crate::stretches::{PART_SIZE, count_stretches, stretch};
 use crate::writing::write_reply;
 use std::alloc::{AllocError, Global};
 use std::collections::VecDeque;
 use std::sync::Arc;
-use unit_types::{Bytes, Handlers, Reply};
+use unit_types::{Bytes, CHUNK_SIZE, Handlers, Reply};
 
 // Piece `index` of a part, whose bytes are given.
 fn answer_piece<H: Handlers>(
@@ -28,7 +28,7 @@ fn answer_piece<H: Handlers>(
     requires index { piece_size * index ≤ length bytes.now }
     ensures { IfOk result (λ p. p ≡ answer_of H.reply_of (arc_value asked.now) part index) }
 {
-    let bytes = Bytes::copy_of(alloc, stretch(bytes, PIECE_SIZE, index as usize))?;
+    let bytes = Bytes::copy_of(alloc, stretch(bytes, CHUNK_SIZE, index as usize))?;
     let asked = Arc::try_clone(asked)?;
     Ok(Parcel::Answer(Piece::of(asked, part, index, bytes)))
 }
@@ -44,7 +44,7 @@ fn part_pieces<H: Handlers>(
     requires short { length bytes.now ≤ part_size }
     ensures { IfOk result (λ p. p.parcels ≡ answers_of H.reply_of (arc_value asked.now) part) }
 {
-    let count = count_stretches(bytes, PIECE_SIZE) as u32;
+    let count = count_stretches(bytes, CHUNK_SIZE) as u32;
     let mut pieces = Pieces::room(alloc, count)?;
     for index in 0..count {
         pieces.push(answer_piece(alloc, asked, part, bytes, index)?);

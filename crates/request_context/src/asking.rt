@@ -6,9 +6,9 @@ ghost use Rattle.request_context.specs.Parcels.{IsEmptied, asks_of, joined};
 
 use crate::piece::Parcel;
 use crate::pieces::Pieces;
-use crate::stretches::{PIECE_SIZE, count_stretches, stretch};
+use crate::stretches::{count_stretches, stretch};
 use std::alloc::{AllocError, Global};
-use unit_types::{Bytes, Handlers};
+use unit_types::{Bytes, CHUNK_SIZE, Handlers};
 
 // Piece `index` of a record.
 fn ask_piece<H: Handlers>(
@@ -19,7 +19,7 @@ fn ask_piece<H: Handlers>(
     requires { piece_size * index ≤ length bytes.now }
     ensures { IfOk result (λ parcel. parcel ≡ Ask (stretch_of piece_size bytes.now index)) }
 {
-    let piece = Bytes::copy_of(alloc, stretch(bytes, PIECE_SIZE, index))?;
+    let piece = Bytes::copy_of(alloc, stretch(bytes, CHUNK_SIZE, index))?;
     Ok(Parcel::Ask(piece))
 }
 
@@ -30,7 +30,7 @@ pub fn ask_pieces<H: Handlers>(alloc: Global, bytes: &Bytes) -> Result<Pieces<H>
     ensures { IfOk result (λ pieces. pieces.parcels ≡ asks_of bytes.now) }
 {
     let bytes = bytes.as_slice();
-    let count = count_stretches(bytes, PIECE_SIZE);
+    let count = count_stretches(bytes, CHUNK_SIZE);
     let mut pieces = Pieces::with_spare(alloc, count)?;
     for index in 0..count {
         pieces.push(ask_piece(alloc, bytes, index)?);
@@ -70,8 +70,8 @@ pub(crate) fn put_pieces<H: Handlers>(
 
 // How many bytes all parcels have: the room to ask for.
 pub(crate) fn size_of_pieces<H: Handlers>(pieces: &Pieces<H>) -> usize {
-    let (front, back) = pieces.as_slices();
-    size_of_parcels(front).saturating_add(size_of_parcels(back))
+    let (first, second) = pieces.as_slices();
+    size_of_parcels(first).saturating_add(size_of_parcels(second))
 }
 
 /// The bytes of the parcels, joined in order; `pieces` is emptied.

@@ -1,11 +1,16 @@
 //! Lists of parcels, with room for more.
 ghost use Rattle.std.specs.Prelude.{◌≡◌, ◌≤◌, ◌<◌, ◌+◌, ◌++◌, ◌∷◌, [], length, IfOk, MatchOption, IsTrue};
+ghost use Rattle.std.specs.Arc.{arc_value};
+ghost use Rattle.std.specs.Option.{option_map};
+ghost use Rattle.request_context.specs.Collecting.{carried, carried_by};
 ghost use Rattle.request_context.specs.Parcels.{PiecesValue, IsEmptied, bytes_in};
 
+use crate::asked::Asked;
 use crate::piece::Parcel;
 use std::alloc::{AllocError, Global};
 use std::collections::VecDeque;
 use std::marker::Model;
+use std::sync::Arc;
 use unit_types::{Bytes, Handlers};
 
 /// A list of parcels with a spare: how many more it takes in without memory.
@@ -83,6 +88,16 @@ impl<H: Handlers> Pieces<H> {
         self.parcels.clear();
     }
 
+    /// What the first parcel says was asked, where it is a piece of a reply.
+    pub fn asked(&self) -> Option<&Arc<Asked>>
+        ensures { option_map (λ asked. arc_value asked.now) result ≡ carried self.now.parcels }
+    {
+        match self.parcels.front() {
+            Some(parcel) => parcel.asked(),
+            None => None,
+        }
+    }
+
     /// The parcels, as two slices: the second stands behind the first.
     pub fn as_slices(&self) -> (&[Parcel<H>], &[Parcel<H>])
         ensures { result.0.now ++ result.1.now ≡ self.now.parcels }
@@ -92,6 +107,16 @@ impl<H: Handlers> Pieces<H> {
 }
 
 impl<H: Handlers> Parcel<H> {
+    /// What it says was asked, where it is a piece of a reply.
+    pub fn asked(&self) -> Option<&Arc<Asked>>
+        ensures { option_map (λ asked. arc_value asked.now) result ≡ carried_by self.now }
+    {
+        match self {
+            Parcel::Ask(_) => None,
+            Parcel::Answer(piece) => Some(piece.asked()),
+        }
+    }
+
     /// The bytes of the parcel.
     pub fn as_slice(&self) -> &[u8]
         ensures { result.now ≡ bytes_in self.now }

@@ -5,9 +5,6 @@ ghost use Rattle.request_context.specs.Parts.{part_size, piece_size, stretch_cou
 /// The bytes of a part of a reply record, of which one message carries one. Part of the record's format.
 pub const PART_SIZE: usize = 262_144;
 
-/// The bytes of a piece of a record, of which one chunk holds one. Part of the record's format.
-pub const PIECE_SIZE: usize = 16_384;
-
 // How many stretches of this size the bytes have; the last one may be shorter.
 #[tactic(auto, unfolding(crate::specs::Parts::stretch_count))]
 pub(crate) fn count_stretches(bytes: &[u8], size: usize) -> usize

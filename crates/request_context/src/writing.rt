@@ -1,8 +1,8 @@
 //! Values to records.
-ghost use Rattle.std.specs.Prelude.{◌≡◌, ◌<◌, ◌≤◌, ◌^◌, ◌++◌, ◌-◌, length, min, OnOk, IfOk};
+ghost use Rattle.std.specs.Prelude.{◌≡◌, ◌<◌, ◌≤◌, ◌^◌, ◌+◌, ◌++◌, ◌-◌, length, min, OnOk, IfOk};
 ghost use Rattle.std.specs.Int.{w8, w16, w32, w64};
 ghost use Rattle.unit_types.specs.Record.{number, length_prefixed, field_bytes, field_list_bytes, reply_record};
-ghost use Rattle.request_context.specs.Record.{IsShort, IsShortField, AreShortFields, IsRecordable, IsRecordableReply, addr_bytes, head_bytes, request_record, field_size, field_list_size, request_size, request_record_size, reply_record_size};
+ghost use Rattle.request_context.specs.Record.{IsShort, IsShortField, AreShortFields, IsRecordable, IsRecordableReply, asked_with, addr_bytes, head_bytes, request_record, field_size, field_list_size, request_size, request_record_size, reply_record_size};
 
 use crate::asked::Asked;
 use byteorder::{BigEndian, ByteOrder};
@@ -126,12 +126,12 @@ fn size_of_request(request: &Request) -> usize
         .saturating_add(request.body.as_slice().len())
 }
 
-fn size_of_record(asked: &Asked) -> usize
-    ensures { result ≡ min (length (request_record asked.now)) (2 ^ 64 - 1) }
+fn size_of_record(name: &[u8], request: &Request) -> usize
+    ensures { result ≡ min (12 + length name.now + request_size request.now) (2 ^ 64 - 1) }
 {
-    size_of_request(&asked.request)
+    size_of_request(request)
         .saturating_add(12)
-        .saturating_add(asked.name.as_slice().len())
+        .saturating_add(name.len())
 }
 
 fn size_of_reply(reply: &Reply) -> usize
@@ -142,25 +142,40 @@ fn size_of_reply(reply: &Reply) -> usize
         .saturating_add(reply.body.as_slice().len())
 }
 
-/// The record of a request.
+/// The record of a request under its stream, for the handler of that name.
 ///
 /// The minor version is 0 or 1, and each length and the number of fields are below 2^32. Fails for want of memory
 /// alone.
 #[tactic(auto, unfolding(crate::specs::Record::request_record))]
-pub fn write_record(alloc: Global, asked: &Asked) -> Result<Bytes, AllocError>
-    requires { IsRecordable asked.now }
-    ensures { IfOk result (λ bytes. bytes ≡ request_record asked.now) }
+pub fn record_of(
+    alloc: Global,
+    stream: u64,
+    name: &[u8],
+    request: &Request,
+) -> Result<Bytes, AllocError>
+    requires { IsRecordable (asked_with stream name.now request.now) }
+    ensures { IfOk result (λ bytes. bytes ≡ request_record (asked_with stream name.now request.now)) }
 {
-    let request = &asked.request;
-    let mut out = Vec::with_capacity(alloc, size_of_record(asked))?;
-    put_u64(&mut out, asked.stream)?;
-    put_text(&mut out, asked.name.as_slice())?;
+    let mut out = Vec::with_capacity(alloc, size_of_record(name, request))?;
+    put_u64(&mut out, stream)?;
+    put_text(&mut out, name)?;
     put_head(&mut out, request)?;
     put_addr(&mut out, &request.from)?;
     put_addr(&mut out, &request.to)?;
     put_fields(&mut out, request.fields.as_slice())?;
     put_text(&mut out, request.body.as_slice())?;
     Ok(Bytes::of(out))
+}
+
+/// The record of a request.
+///
+/// The minor version is 0 or 1, and each length and the number of fields are below 2^32. Fails for want of memory
+/// alone.
+pub fn write_record(alloc: Global, asked: &Asked) -> Result<Bytes, AllocError>
+    requires { IsRecordable asked.now }
+    ensures { IfOk result (λ bytes. bytes ≡ request_record asked.now) }
+{
+    record_of(alloc, asked.stream, asked.name.as_slice(), &asked.request)
 }
 
 /// The record of a reply.
