@@ -9,3 +9,5 @@ pub mod Again
 pub mod Configuration
 pub mod Answers
 pub mod Kept
+pub mod Current
+pub mod Ports

@@ -4,6 +4,7 @@
 mod applications;
 mod compile;
 mod conf;
+mod current;
 mod destinations;
 mod fault;
 mod forms;
@@ -14,6 +15,7 @@ mod members;
 mod names;
 mod patterns;
 mod place;
+mod ports;
 mod references;
 mod routes;
 mod rules;
@@ -24,11 +26,14 @@ mod validation;
 mod walk;
 
 pub use conf::{Action, Application, Changes, Conf, Destination, Goal, Listener, Step};
+pub use current::Current;
 pub use fault::{ConfFault, Invalid};
+pub use forms::is_log_format;
 pub use laws::{
     plain_documents_change_nothing, plain_documents_keep_the_plain_rules,
     plain_passes_find_their_targets, plain_passes_lead_somewhere,
 };
 pub use matching::{Match, NamedPatterns, NamedSet, NamedSets};
+pub use ports::{port_of, port_text};
 pub use validation::validate;
 pub use walk::first_fault;
