@@ -11,3 +11,5 @@ pub mod Answers
 pub mod Kept
 pub mod Current
 pub mod Ports
+pub mod Laws
+pub mod Entries

@@ -6,6 +6,7 @@ mod compile;
 mod conf;
 mod current;
 mod destinations;
+mod entries;
 mod fault;
 mod forms;
 mod laws;
@@ -23,6 +24,7 @@ mod search;
 #[cfg(test)]
 mod tests;
 mod validation;
+mod values;
 mod walk;
 
 pub use conf::{Action, Application, Changes, Conf, Destination, Goal, Listener, Step};
@@ -30,6 +32,7 @@ pub use current::Current;
 pub use fault::{ConfFault, Invalid};
 pub use forms::is_log_format;
 pub use laws::{
+    configurations_ask_for_handlers, documents_without_changes_change_nothing, passes_have_goals,
     plain_documents_change_nothing, plain_documents_keep_the_plain_rules,
     plain_passes_find_their_targets, plain_passes_lead_somewhere,
 };
