@@ -12,3 +12,6 @@ mod Reading
 mod Writing
 mod Parts
 mod Through
+mod IndexLemmas
+mod LevelLemmas
+mod LawLemmas

@@ -4,3 +4,4 @@ pub mod Document
 pub mod Places
 pub mod Answers
 pub mod Text
+pub mod Laws

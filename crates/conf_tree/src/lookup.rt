@@ -34,10 +34,7 @@ fn child<'a>(tree: &'a Tree, key: &[u8]) -> Option<&'a Tree>
             Some(index) => Some(&items[index]),
             None => None,
         },
-        Tree::Object(map) => match map.find(key) {
-            Ok(index) => Some(&map.members[index].value),
-            Err(_) => None,
-        },
+        Tree::Object(map) => map.get(key),
         _ => None,
     }
 }

@@ -1,7 +1,7 @@
 //! Trees.
 ghost use Rattle.std.specs.Cmp.Lexicographic.{slice_cmp};
 ghost use Rattle.std.specs.Ordering.{nat_cmp};
-ghost use Rattle.std.specs.Prelude.{◌≡◌, length, option_map, map};
+ghost use Rattle.std.specs.Prelude.{◌≡◌, length, option_map, map, IfSome};
 
 use std::alloc::Global;
 use std::cmp::Ordering;
@@ -30,11 +30,14 @@ pub enum Tree {
 /// The items of an array, shown by `as_slice`.
 pub type TreeList = Vec<Tree>;
 
+/// A member of an object.
 #[cycle(tree)]
 #[derive(Drop)]
-pub(crate) struct Member {
-    pub(crate) key: Bytes,
-    pub(crate) value: Tree,
+pub struct Member {
+    /// Its name.
+    pub key: Bytes,
+    /// Its value.
+    pub value: Tree,
 }
 
 /// The members of an object, in ascending byte order of their names.
@@ -45,12 +48,13 @@ pub struct TreeMap {
 }
 
 impl TreeMap {
-    ghost use Rattle.conf_tree.specs.Document.{AreMembers};
+    ghost use Rattle.conf_tree.specs.Document.{AreMembers, IsDocument};
     ghost use Rattle.conf_tree.specs.Places.{IsPlaceOf};
-    ghost use Rattle.conf_tree.specs.View.{data_of, map_data, name_at, named, value_at};
+    ghost use Rattle.conf_tree.specs.View.{data_of, map_data, members_of, name_at, named, value_at};
     ghost use Rattle.conf_tree.specs.declared.tree.TreeMap.{out-TreeMap};
     ghost use Rattle.serde_json.specs.Data.{no_members};
     ghost use Rattle.serde_json.specs.Events.{members_len};
+    ghost use Rattle.serde_json.specs.Find.{get_member};
 
     /// No members.
     pub fn new(alloc: Global) -> TreeMap
@@ -85,6 +89,25 @@ impl TreeMap {
         match self.members.get(index) {
             Some(member) => Some(&member.value),
             None => None,
+        }
+    }
+
+    /// The members in ascending byte order of their names. It takes no memory.
+    pub fn members(&self) -> &[Member]
+        ensures { map_data self.now ≡ members_of (map named result.now) }
+    {
+        self.members.as_slice()
+    }
+
+    /// The value of the member of this name; None exactly where there is none. It takes no memory.
+    pub fn get(&self, key: &[u8]) -> Option<&Tree>
+        requires { AreMembers (map_data self.now) }
+        ensures value { option_map (λ t. data_of t.now) result ≡ get_member key.now (map_data self.now) }
+        ensures document { IfSome result (λ t. IsDocument (data_of t.now)) }
+    {
+        match self.find(key) {
+            Ok(index) => Some(&self.members[index].value),
+            Err(_) => None,
         }
     }
 

@@ -3,7 +3,6 @@ mod Sizes
 mod WalkLemmas
 mod LowerLemmas
 mod SearchLemmas
-mod CompileLemmas
 mod CleanLemmas
 mod MatchLemmas
 mod DestinationLemmas
@@ -11,3 +10,5 @@ mod ChangeLemmas
 mod KeptLemmas
 mod PlainLemmas
 pub mod PlainPassLemmas
+mod GoalLemmas
+mod EntryLemmas

@@ -29,7 +29,7 @@ use Rattle.conf_validate.proofs.WalkLemmas.{object_walk}
 
 -- ---- the rows that are used
 
-fixed-Whole : (row_of place.Whole).members ≡ Some names.Fixed
+pub fixed-Whole : (row_of place.Whole).members ≡ Some names.Fixed
 unfolding row_of
 fixed-Whole = refl
 
@@ -45,7 +45,7 @@ fixed-Action : (row_of place.Action).members ≡ Some names.Fixed
 unfolding row_of
 fixed-Action = refl
 
-fixed-Application : (row_of place.Application).members ≡ Some names.Fixed
+pub fixed-Application : (row_of place.Application).members ≡ Some names.Fixed
 unfolding row_of
 fixed-Application = refl
 
@@ -57,7 +57,7 @@ members-Routes : (row_of place.Routes).members ≡ Some (names.Target place.Step
 unfolding row_of
 members-Routes = refl
 
-members-Applications : (row_of place.Applications).members ≡ Some (names.Target place.Application)
+pub members-Applications : (row_of place.Applications).members ≡ Some (names.Target place.Application)
 unfolding row_of
 members-Applications = refl
 
@@ -73,7 +73,7 @@ text-Pass : (row_of place.Pass).text ≡ Some form.Pass
 unfolding row_of
 text-Pass = refl
 
-text-Executable : (row_of place.Executable).text ≡ Some form.Handler
+pub text-Executable : (row_of place.Executable).text ≡ Some form.Handler
 unfolding row_of
 text-Executable = refl
 
@@ -85,7 +85,7 @@ at-Whole-routes : place_among (codes "routes") (entries_of place.Whole) ≡ Some
 unfolding entries_of
 at-Whole-routes = refl
 
-at-Whole-applications : place_among (codes "applications") (entries_of place.Whole) ≡ Some place.Applications
+pub at-Whole-applications : place_among (codes "applications") (entries_of place.Whole) ≡ Some place.Applications
 unfolding entries_of
 at-Whole-applications = refl
 
@@ -101,7 +101,7 @@ at-Action-pass : place_among (codes "pass") (entries_of place.Action) ≡ Some p
 unfolding entries_of
 at-Action-pass = refl
 
-at-Application-executable : place_among (codes "executable") (entries_of place.Application) ≡ Some place.Executable
+pub at-Application-executable : place_among (codes "executable") (entries_of place.Application) ≡ Some place.Executable
 unfolding entries_of
 at-Application-executable = refl
 
@@ -205,27 +205,44 @@ step_good c d h =
 
 -- ---- the passes of a valid plain document
 
-found_in : (document : Data) (o : Option (List ℕ)) → IfSome o (IsGood document) → IfSome o HasNoDollar → All (Finds document) (option_to_list o)
-found_in document None h g = All-nil (Finds document)
-found_in document (Some s) h g =
-    All-cons (Finds document) s [] (finds document s (sym (pass_same document s g) ∙ h)) (All-nil (Finds document))
+-- a pass finds its target unless it has a `$`
+abbrev pub FindsUnless : Data → List ℕ → Type 0
+FindsUnless document s = HasNoDollar s → Finds document s
+
+found_in : (document : Data) (o : Option (List ℕ)) → IfSome o (IsGood document) → All (FindsUnless document) (option_to_list o)
+found_in document None h = All-nil (FindsUnless document)
+found_in document (Some s) h =
+    All-cons (FindsUnless document) s [] (λ plain. finds document s (sym (pass_same document s plain) ∙ h)) (All-nil (FindsUnless document))
 
 all_flat : (P : List ℕ → Type 0) (f : Data → List (List ℕ)) (ds : List Data) → All (λ d. All P (f d)) ds → All P (flat_map f ds)
 all_flat P f [] h = All-nil P
 all_flat P f (d ∷ ds) h = All-append P (f d) (flat_map f ds) (All-head (λ e. All P (f e)) d ds h) (all_flat P f ds (All-tail (λ e. All P (f e)) d ds h))
 
-abbrev context : Data → List (List ℕ) → Context
+abbrev pub context : Data → List (List ℕ) → Context
 context document handlers = record { document = document; handlers = handlers }
 
--- each pass of a listener or of a step's action names something that is there
-pub passes_find : (document : Data) (handlers : List (List ℕ)) → IsPlain document → fault_of document handlers ≡ None → All (Finds document) (passes_of document)
-passes_find document handlers plain h =
+-- each pass of a listener or of a step's action names something that is there, unless it has a `$`
+pub finds_unless : (document : Data) (handlers : List (List ℕ)) → fault_of document handlers ≡ None → All (FindsUnless document) (passes_of document)
+finds_unless document handlers h =
     let c = context document handlers in
     let listeners = listeners_clean c (get (codes "listeners") document) (get_clean c place.Whole place.Listeners (codes "listeners") document fixed-Whole at-Whole-listeners h) in
     let steps = routes_clean c (get (codes "routes") document) (get_clean c place.Whole place.Routes (codes "routes") document fixed-Whole at-Whole-routes h) in
-    All-append (Finds document) (flat_map (λ listener. pass_of (Some listener)) (listeners_in document)) (flat_map (λ step. pass_of (get (codes "action") step)) (steps_in document))
-    (all_flat (Finds document) (λ listener. pass_of (Some listener)) (listeners_in document) (λ k d lt. found_in document _ (listener_good c _ (listeners k d lt)) (plain.listeners k d lt)))
-    (all_flat (Finds document) (λ step. pass_of (get (codes "action") step)) (steps_in document) (λ k d lt. found_in document _ (step_good c _ (steps k d lt)) (plain.steps k d lt).pass))
+    All-append (FindsUnless document) (flat_map (λ listener. pass_of (Some listener)) (listeners_in document)) (flat_map (λ step. pass_of (get (codes "action") step)) (steps_in document))
+    (all_flat (FindsUnless document) (λ listener. pass_of (Some listener)) (listeners_in document) (λ k d lt. found_in document _ (listener_good c _ (listeners k d lt))))
+    (all_flat (FindsUnless document) (λ step. pass_of (get (codes "action") step)) (steps_in document) (λ k d lt. found_in document _ (step_good c _ (steps k d lt))))
+
+no_dollars_in : (o : Option (List ℕ)) → IfSome o HasNoDollar → All HasNoDollar (option_to_list o)
+no_dollars_in None h = All-nil HasNoDollar
+no_dollars_in (Some s) h = All-cons HasNoDollar s [] h (All-nil HasNoDollar)
+
+no_dollars : (document : Data) → IsPlain document → All HasNoDollar (passes_of document)
+no_dollars document plain =
+    All-append HasNoDollar (flat_map (λ listener. pass_of (Some listener)) (listeners_in document)) (flat_map (λ step. pass_of (get (codes "action") step)) (steps_in document))
+    (all_flat HasNoDollar (λ listener. pass_of (Some listener)) (listeners_in document) (λ k d lt. no_dollars_in _ (plain.listeners k d lt)))
+    (all_flat HasNoDollar (λ step. pass_of (get (codes "action") step)) (steps_in document) (λ k d lt. no_dollars_in _ (plain.steps k d lt).pass))
+
+pub passes_find : (document : Data) (handlers : List (List ℕ)) → IsPlain document → fault_of document handlers ≡ None → All (Finds document) (passes_of document)
+passes_find document handlers plain h = λ k d lt. finds_unless document handlers h k d lt (no_dollars document plain k d lt)
 
 -- ---- what stands at the targets
 
@@ -279,7 +296,7 @@ action_there c (string s) h = absurd (cc h)
 action_there c (array ds) h = absurd (cc h)
 action_there c (object ms) h = step_required ms (required_there c place.Step ms fixed-Step h)
 
-executable_there : (c : Context) (d : Data) → NoFault c place.Application d → is_some (get (codes "executable") d) ≡ true
+pub executable_there : (c : Context) (d : Data) → NoFault c place.Application d → is_some (get (codes "executable") d) ≡ true
 unfolding row_of
 executable_there c null h = absurd (cc h)
 executable_there c (boolean b) h = absurd (cc h)
@@ -299,7 +316,7 @@ steps_array c (array ds) h = (ds, refl)
 steps_array c (object ms) h = absurd (cc h)
 
 -- an executable that breaks no rule is a text
-executable_text : (c : Context) (o : Option Data) → is_some o ≡ true → IsClean c place.Executable o → IsTrue (is_some (text_in o))
+pub executable_text : (c : Context) (o : Option Data) → is_some o ≡ true → IsClean c place.Executable o → IsTrue (is_some (text_in o))
 unfolding row_of
 executable_text c None e h = absurd (cc e)
 executable_text c (Some null) e h = absurd (cc (h null refl))
@@ -309,7 +326,7 @@ executable_text c (Some (string s)) e h = refl
 executable_text c (Some (array ds)) e h = absurd (cc (h (array ds) refl))
 executable_text c (Some (object ms)) e h = absurd (cc (h (object ms) refl))
 
-handler_there : (handlers : List (List ℕ)) (s : List ℕ) → list_any (λ name. bytes_eq name s) handlers ≡ true → Contains handlers s
+pub handler_there : (handlers : List (List ℕ)) (s : List ℕ) → list_any (λ name. bytes_eq name s) handlers ≡ true → Contains handlers s
 handler_there [] s h = absurd (cc h)
 handler_there (n ∷ ns) s h =
     or_case (bytes_eq n s) (list_any (λ name. bytes_eq name s) ns) h
@@ -331,7 +348,7 @@ steps_kept c ds h there = λ k d lt. record { there = there k d lt; action = act
 -- ---- where the passes lead
 
 -- the member of an object
-part_member : (name : List ℕ) (o : Option Data) (d : Data) → part name o ≡ Some d → (ms : Members) × (o ≡ Some (object ms)) × (get_member name ms ≡ Some d)
+pub part_member : (name : List ℕ) (o : Option Data) (d : Data) → part name o ≡ Some d → (ms : Members) × (o ≡ Some (object ms)) × (get_member name ms ≡ Some d)
 part_member name None d h = absurd (cc h)
 part_member name (Some null) d h = absurd (cc h)
 part_member name (Some (boolean b)) d h = absurd (cc h)

@@ -1,14 +1,17 @@
--- A binary search among names that ascend, and the comparison of bytes that come one by one.
-use Rattle.std.proofs.Common.{◌≡◌, ℕ, zero, suc, ◌+◌, ◌<◌, ◌≤◌, Bool, true, false, List, [], ◌∷◌, length, map, drop, get_or, Option, Some, None, option_map, if◌then◌else◌, Ordering, Less, Equal, Greater, is_eq, refl, sym, ap, ◌∙◌, subst, arith}
+-- A binary search by name among things whose names ascend, and the comparison with bytes that come one by one.
+use Rattle.std.proofs.Common.{◌≡◌, ℕ, zero, suc, ◌+◌, ◌<◌, ◌≤◌, Bool, true, false, List, [], ◌∷◌, length, map, drop, get_or, Option, Some, None, option_map, if◌then◌else◌, Result, Ok, Err, Ordering, Less, Equal, Greater, is_eq, refl, sym, ap, ◌∙◌, subst, arith}
 use Rattle.std.proofs.lemmas.Cmp.{nat_list_cmp_total}
 use Rattle.std.proofs.lemmas.Iterator.Consumers.{YieldsList-from_first}
-use Rattle.std.proofs.lemmas.List.{drop_all, drop_more, length-map}
+use Rattle.std.proofs.lemmas.List.{drop_all, drop_more, get_or-map, length-map}
 use Rattle.std.proofs.lemmas.List.Elements.{All-get_or}
+use Rattle.std.proofs.lemmas.List.Sorted.{searchable_from_sorted}
 use Rattle.std.proofs.lemmas.Map.Text.{is_eq-slice_cmp}
 use Rattle.std.proofs.lemmas.Slice.Eq.{bytes_eq-Decides}
 use Rattle.std.specs.Cmp.Lexicographic.{slice_cmp}
 use Rattle.std.specs.Iterator.{AlwaysYields, YieldsFirst}
-use Rattle.std.specs.Ordering.{nat_cmp, ordering_reverse, ordering_then}
+use Rattle.std.specs.List.Sorted.{IsBinarySearchResult, IsNonDecreasingBy, IsSearchInRange, IsSortedBy}
+use Rattle.std.specs.Ordering.{is_lt, nat_cmp, ordering_index, ordering_reverse, ordering_then}
+use Rattle.std.specs.Result.{result_ok}
 use Rattle.std.specs.Str.{bytes_eq}
 use Rattle.conf_validate.specs.Configuration.{goal_named, listener_index}
 use Rattle.conf_validate.specs.Kept.{Ascends}
@@ -20,71 +23,8 @@ use Rattle.conf_validate.specs.declared.search.SliceBytes.{SliceBytes}
 abbrev pub compared : List ℕ → List ℕ → Ordering
 compared k l = slice_cmp nat_cmp k l
 
-same_key : (k l : List ℕ) → compared k l ≡ Equal → k ≡ l
-same_key k l e = (bytes_eq-Decides k l).0 (sym (is_eq-slice_cmp k l) ∙ ap is_eq e)
-
-turned : (k l : List ℕ) → compared k l ≡ ordering_reverse (compared l k)
-turned k l = nat_list_cmp_total.antisymm k l
-
--- whether two texts are the same, from their comparison
-same_test : (k l : List ℕ) (o : Ordering) → compared k l ≡ o → bytes_eq l k ≡ is_eq (ordering_reverse o)
-same_test k l o e = sym (is_eq-slice_cmp l k) ∙ ap is_eq (turned l k ∙ ap ordering_reverse e)
-
--- ---- names by their place
-
-pub ascending : (names : List (List ℕ)) (i j : ℕ) → Ascends names → i < j → j < length names → compared (get_or names i []) (get_or names j []) ≡ Less
-ascending [] i j h lt within = absurd (omega arith)
-ascending (n ∷ ns) zero zero h lt within = absurd (omega arith)
-ascending (n ∷ ns) zero (suc j) h lt within = All-get_or (λ later. compared n later ≡ Less) ns j [] (omega arith) h.0
-ascending (n ∷ ns) (suc i) zero h lt within = absurd (omega arith)
-ascending (n ∷ ns) (suc i) (suc j) h lt within = ascending ns i j h.1 (omega arith) (omega arith)
-
-split_le : {P : Type 0} (i j : ℕ) → i ≤ j → (i < j → P) → (i ≡ j → P) → P
-split_le zero zero h f g = g refl
-split_le zero (suc j) h f g = f (omega arith)
-split_le (suc i) zero h f g = absurd (omega arith)
-split_le (suc i) (suc j) h f g = split_le i j (omega arith) (λ lt. f (omega arith)) (λ e. g (ap suc e))
-
--- what comes before a name comes before all that stands behind it
-pub before_later : (name : List ℕ) (names : List (List ℕ)) (i j : ℕ) → Ascends names → i ≤ j → j < length names → compared name (get_or names i []) ≡ Less → compared name (get_or names j []) ≡ Less
-before_later name names i j h le within c =
-    split_le i j le
-    (λ lt. nat_list_cmp_total.trans name (get_or names i []) (get_or names j []) c (ascending names i j h lt within))
-    (λ e. subst (λ (n : ℕ). compared name (get_or names n []) ≡ Less) e c)
-
-pub after_earlier : (name : List ℕ) (names : List (List ℕ)) (i j : ℕ) → Ascends names → j ≤ i → i < length names → compared name (get_or names i []) ≡ Greater → compared name (get_or names j []) ≡ Greater
-after_earlier name names i j h le within c =
-    let k = get_or names i [] in
-    let l = get_or names j [] in
-    let back : compared k name ≡ Less = turned k name ∙ ap ordering_reverse c in
-    split_le j i le
-    (λ lt. turned name l ∙ ap ordering_reverse (nat_list_cmp_total.trans l k name (ascending names j i h lt within) back))
-    (λ e. subst (λ (n : ℕ). compared name (get_or names n []) ≡ Greater) (sym e) c)
-
--- ---- the first of these names
-
-abbrev pub index_in : List ℕ → List (List ℕ) → Option ℕ
-index_in name [] = None
-index_in name (n ∷ ns) = if bytes_eq n name then Some 0 else option_map suc (index_in name ns)
-
-pub found : (name : List ℕ) (names : List (List ℕ)) (i : ℕ) → Ascends names → i < length names → compared name (get_or names i []) ≡ Equal → index_in name names ≡ Some i
-found name [] i h within c = absurd (omega arith)
-found name (n ∷ ns) zero h within c = rw (same_test name n Equal c) refl
-found name (n ∷ ns) (suc i) h within c =
-    let here : get_or ns i [] ≡ name = sym (same_key name (get_or ns i []) c) in
-    let later : compared n name ≡ Less = subst (λ (l : List ℕ). compared n l ≡ Less) here (All-get_or (λ l. compared n l ≡ Less) ns i [] (omega arith) h.0) in
-    let after : compared name n ≡ Greater = turned name n ∙ ap ordering_reverse later in
-    rw (same_test name n Greater after, found name ns i h.1 (omega arith) c) refl
-
-not_equal : (o : Ordering) → (o ≡ Equal → ⊥) → is_eq (ordering_reverse o) ≡ false
-not_equal Less h = refl
-not_equal Equal h = absurd (h refl)
-not_equal Greater h = refl
-
-absent : (name : List ℕ) (names : List (List ℕ)) → ((i : ℕ) → i < length names → compared name (get_or names i []) ≡ Equal → ⊥) → index_in name names ≡ None
-absent name [] h = refl
-absent name (n ∷ ns) h =
-    rw (same_test name n (compared name n) refl, not_equal (compared name n) (h 0 (omega arith)), absent name ns (λ i lt e. h (suc i) (omega arith) e)) refl
+same_name : (k l : List ℕ) → compared k l ≡ Equal → k ≡ l
+same_name k l e = (bytes_eq-Decides k l).0 (sym (is_eq-slice_cmp k l) ∙ ap is_eq e)
 
 lt_or_le : {P : Type 0} (i j : ℕ) → (i < j → P) → (j ≤ i → P) → P
 lt_or_le zero zero f g = g (omega arith)
@@ -92,68 +32,102 @@ lt_or_le zero (suc j) f g = f (omega arith)
 lt_or_le (suc i) zero f g = g (omega arith)
 lt_or_le (suc i) (suc j) f g = lt_or_le i j (λ lt. f (omega arith)) (λ le. g (omega arith))
 
-greater_is_not_equal : (o : Ordering) → o ≡ Greater → o ≡ Equal → ⊥
-greater_is_not_equal o a b = cc (a, b)
+-- the index of the first of these names that is this one
+abbrev pub index_in : List ℕ → List (List ℕ) → Option ℕ
+index_in name [] = None
+index_in name (n ∷ ns) = if bytes_eq n name then Some 0 else option_map suc (index_in name ns)
 
-less_is_not_equal : (o : Ordering) → o ≡ Less → o ≡ Equal → ⊥
-less_is_not_equal o a b = cc (a, b)
+-- ---- things by a key
 
--- what a search knows: it lies behind all names before `low`, and before all from `high` on
-abbrev pub LiesBehind : List ℕ → List (List ℕ) → ℕ → Type 0
-LiesBehind name names low = (i : ℕ) → i < low → i < length names → compared name (get_or names i []) ≡ Greater
+module _ {T : Type 0} (key : T → List ℕ) where
+  key_at : (ts : List T) (i : ℕ) (d : T) → i < length ts → get_or (map key ts) i [] ≡ key (get_or ts i d)
+  key_at ts i d within = get_or-map key ts i d [] within
 
-abbrev pub LiesBefore : List ℕ → List (List ℕ) → ℕ → Type 0
-LiesBefore name names high = (i : ℕ) → high ≤ i → i < length names → compared name (get_or names i []) ≡ Less
+  -- of two things the earlier one has the lesser key
+  below : (ts : List T) (i j : ℕ) (d : T) → Ascends (map key ts) → i < j → j < length ts → compared (key (get_or ts i d)) (key (get_or ts j d)) ≡ Less
+  below [] i j d h lt within = absurd (omega arith)
+  below (t ∷ ts) zero zero d h lt within = absurd (omega arith)
+  below (t ∷ ts) zero (suc j) d h lt within =
+      let size : j < length (map key ts) = omega (arith, length-map ts key) in
+      subst (λ (n : List ℕ). compared (key t) n ≡ Less) (key_at ts j d (omega arith)) (All-get_or (λ later. compared (key t) later ≡ Less) (map key ts) j [] size h.0)
+  below (t ∷ ts) (suc i) zero d h lt within = absurd (omega arith)
+  below (t ∷ ts) (suc i) (suc j) d h lt within = below ts i j d h.1 (omega arith) (omega arith)
 
--- a search that has no place left finds no name
-pub nowhere : (name : List ℕ) (names : List (List ℕ)) (low high : ℕ) → high ≤ low → LiesBehind name names low → LiesBefore name names high → index_in name names ≡ None
-nowhere name names low high le behind before =
-    absent name names
-    (λ i within c. lt_or_le i low (λ lt. greater_is_not_equal (compared name (get_or names i [])) (behind i lt within) c) (λ ge. less_is_not_equal (compared name (get_or names i [])) (before i (omega arith) within) c))
+  -- the thing at the place that a search found
+  here : (name : List ℕ) (ts : List T) (i : ℕ) (d : T) → Ascends (map key ts) → i < length ts → compared (key (get_or ts i d)) name ≡ Equal → index_in name (map key ts) ≡ Some i
+  here name [] i d h within is = absurd (omega arith)
+  here name (t ∷ ts) zero d h within is =
+      ap (λ b. if b then Some 0 else option_map suc (index_in name (map key ts))) (sym (is_eq-slice_cmp (key t) name) ∙ ap is_eq is)
+  here name (t ∷ ts) (suc i) d h within is =
+      let found : key (get_or ts i d) ≡ name = same_name (key (get_or ts i d)) name is in
+      let less : compared (key t) name ≡ Less = subst (λ (n : List ℕ). compared (key t) n ≡ Less) found (below (t ∷ ts) 0 (suc i) d h (omega arith) within) in
+      ap (λ b. if b then Some 0 else option_map suc (index_in name (map key ts))) (sym (is_eq-slice_cmp (key t) name) ∙ ap is_eq less)
+      ∙ ap (option_map suc) (here name ts i d h.1 (omega arith) is)
 
-pub higher : (name : List ℕ) (names : List (List ℕ)) (m : ℕ) → Ascends names → m < length names → compared name (get_or names m []) ≡ Greater → LiesBehind name names (m + 1)
-higher name names m h within c = λ i lt w. after_earlier name names m i h (omega arith) within c
+  -- nothing has the key
+  nowhere : (name : List ℕ) (ts : List T) → ((i : ℕ) (d : T) → i < length ts → is_eq (compared (key (get_or ts i d)) name) ≡ false) → index_in name (map key ts) ≡ None
+  nowhere name [] h = refl
+  nowhere name (t ∷ ts) h =
+      ap (λ b. if b then Some 0 else option_map suc (index_in name (map key ts))) (sym (is_eq-slice_cmp (key t) name) ∙ h 0 t (omega arith))
+      ∙ ap (option_map suc) (nowhere name ts (λ i d within. h (suc i) d (omega arith)))
 
-pub lower : (name : List ℕ) (names : List (List ℕ)) (m : ℕ) → Ascends names → compared name (get_or names m []) ≡ Less → LiesBefore name names m
-lower name names m h c = λ i ge w. before_later name names m i h ge w c
+  turned : (k l : List ℕ) → compared k l ≡ Less → is_lt (compared l k) ≡ false
+  turned k l less = ap is_lt (nat_list_cmp_total.antisymm l k ∙ ap ordering_reverse less)
 
--- ---- listeners
+  sorted : (ts : List T) → Ascends (map key ts) → IsSortedBy (λ a b. is_lt (compared (key a) (key b))) ts
+  sorted ts h k d low high = turned (key (get_or ts k d)) (key (get_or ts (k + 1) d)) (below ts k (k + 1) d h (omega arith) high)
+
+  rises : (name : List ℕ) (ts : List T) → Ascends (map key ts) → IsNonDecreasingBy (λ t. ordering_index (compared (key t) name)) ts
+  rises name ts h = searchable_from_sorted nat_list_cmp_total key ts name (sorted ts h)
+
+  pub searched : (name : List ℕ) (ts : List T) (r : Result ℕ ℕ) → Ascends (map key ts) → IsSearchInRange r (length ts) → IsBinarySearchResult (λ t. compared (key t) name) ts r → index_in name (map key ts) ≡ result_ok r
+  searched name [] (Ok i) h within found = absurd (omega arith)
+  searched name (t ∷ ts) (Ok i) h within found = here name (t ∷ ts) i t h within (found t)
+  searched name ts (Err i) h within found =
+      let parts = found (rises name ts h) in
+      nowhere name ts
+      (λ k d inside. lt_or_le k i
+      (λ lt. ap is_eq (parts.0 k d (omega arith) lt))
+      (λ ge. ap is_eq (parts.1 k d ge inside)))
+
+-- ---- listeners and destinations
 
 abbrev pub listener_names : List Listener → List (List ℕ)
 listener_names ls = map (λ l. l.name) ls
+
+abbrev pub destination_names : List Destination → List (List ℕ)
+destination_names ds = map (λ d. d.name) ds
 
 pub listener_is : (name : List ℕ) (ls : List Listener) → listener_index name ls ≡ index_in name (listener_names ls)
 listener_is name [] = refl
 listener_is name (l ∷ ls) = ap (λ o. if bytes_eq l.name name then Some 0 else option_map suc o) (listener_is name ls)
 
--- ---- destinations
+first_is : (b : Bool) (o : Option ℕ) (here : Goal) (rest : Option Goal) → (if b then Some 0 else option_map suc o) ≡ Some 0 → (if b then Some here else rest) ≡ Some here
+first_is true o here rest h = refl
+first_is false None here rest h = absurd (cc h)
+first_is false (Some i) here rest h = let e : suc i ≡ 0 = cc h in absurd (omega (arith, e))
 
-abbrev pub destination_names : List Destination → List (List ℕ)
-destination_names ds = map (λ d. d.name) ds
+later_is : (b : Bool) (o : Option ℕ) (i : ℕ) (here there : Goal) (rest : Option Goal) → (if b then Some 0 else option_map suc o) ≡ Some (suc i) → (o ≡ Some i → rest ≡ Some there) → (if b then Some here else rest) ≡ Some there
+later_is true o i here there rest h f = let e : 0 ≡ suc i = cc h in absurd (omega (arith, e))
+later_is false None i here there rest h f = absurd (cc h)
+later_is false (Some k) i here there rest h f = let e : suc k ≡ suc i = cc h in f (ap (λ n. Some n) (omega (arith, e)))
 
-no_index : (o : Option ℕ) → option_map suc o ≡ None → o ≡ None
-no_index None h = refl
-no_index (Some i) h = absurd (cc h)
-
-if_nowhere : (b : Bool) (o : Option ℕ) (here : Goal) (rest : Option Goal) → (if b then Some 0 else option_map suc o) ≡ None → (o ≡ None → rest ≡ None) → (if b then Some here else rest) ≡ None
-if_nowhere true o here rest h f = absurd (cc h)
-if_nowhere false o here rest h f = f (no_index o h)
+none_is : (b : Bool) (o : Option ℕ) (here : Goal) (rest : Option Goal) → (if b then Some 0 else option_map suc o) ≡ None → (o ≡ None → rest ≡ None) → (if b then Some here else rest) ≡ None
+none_is true o here rest h f = absurd (cc h)
+none_is false None here rest h f = f refl
+none_is false (Some i) here rest h f = absurd (cc h)
 
 pub goal_nowhere : (name : List ℕ) (ds : List Destination) → index_in name (destination_names ds) ≡ None → goal_named name ds ≡ None
 goal_nowhere name [] h = refl
 goal_nowhere name (d ∷ ds) h =
-    if_nowhere (bytes_eq d.name name) (index_in name (destination_names ds)) d.goal (goal_named name ds) h (λ e. goal_nowhere name ds e)
+    none_is (bytes_eq d.name name) (index_in name (destination_names ds)) d.goal (goal_named name ds) h (λ e. goal_nowhere name ds e)
 
-pub goal_found : (name : List ℕ) (ds : List Destination) (i : ℕ) (e : Destination) → Ascends (destination_names ds) → i < length ds → compared name (get_or (destination_names ds) i []) ≡ Equal → goal_named name ds ≡ Some (get_or ds i e).goal
-goal_found name [] i e h within c = absurd (omega arith)
-goal_found name (d ∷ ds) zero e h within c = rw (same_test name d.name Equal c) refl
-goal_found name (d ∷ ds) (suc i) e h within c =
-    let names = destination_names ds in
-    let inside : i < length names = omega (arith, length-map ds (λ (x : Destination). x.name)) in
-    let here : get_or names i [] ≡ name = sym (same_key name (get_or names i []) c) in
-    let later : compared d.name name ≡ Less = subst (λ (l : List ℕ). compared d.name l ≡ Less) here (All-get_or (λ l. compared d.name l ≡ Less) names i [] inside h.0) in
-    let after : compared name d.name ≡ Greater = turned name d.name ∙ ap ordering_reverse later in
-    rw (same_test name d.name Greater after) (goal_found name ds i e h.1 (omega arith) c)
+pub goal_found : (name : List ℕ) (ds : List Destination) (i : ℕ) (e : Destination) → i < length ds → index_in name (destination_names ds) ≡ Some i → goal_named name ds ≡ Some (get_or ds i e).goal
+goal_found name [] i e within h = absurd (omega arith)
+goal_found name (d ∷ ds) zero e within h =
+    first_is (bytes_eq d.name name) (index_in name (destination_names ds)) d.goal (goal_named name ds) h
+goal_found name (d ∷ ds) (suc i) e within h =
+    later_is (bytes_eq d.name name) (index_in name (destination_names ds)) i d.goal (get_or ds i e).goal (goal_named name ds) h (λ found. goal_found name ds i e (omega arith) found)
 
 -- ---- bytes that come one by one
 
@@ -170,40 +144,40 @@ module _ {S : Type 0} (steps : S → Option ℕ → S → Type 0) where
 
   -- so many bytes of the name were the first of these
   abbrev pub Passed : List ℕ → List ℕ → ℕ → S → Type 0
-  Passed bytes name at s = (left : List ℕ) × AlwaysYields steps (λ b. b) s left × (compared bytes name ≡ compared left (drop at name))
+  Passed name bytes at s = (left : List ℕ) × AlwaysYields steps (λ b. b) s left × (compared name bytes ≡ compared (drop at name) left)
 
-  pub ends_first : (bytes name : List ℕ) (at : ℕ) (s t : S) → Passed bytes name at s → steps s None t → at < length name → compared bytes name ≡ Less
-  ends_first bytes name at s t passed ended within =
-      passed.2 ∙ ap (λ (l : List ℕ). compared l (drop at name)) (none_left s t passed.0 passed.1 ended) ∙ ap (λ (l : List ℕ). compared [] l) (drop_more name at 0 within)
+  pub text_ends : (name bytes : List ℕ) (at : ℕ) (s t : S) → Passed name bytes at s → steps s None t → at < length name → compared name bytes ≡ Greater
+  text_ends name bytes at s t passed ended within =
+      passed.2 ∙ ap (λ (l : List ℕ). compared (drop at name) l) (none_left s t passed.0 passed.1 ended) ∙ ap (λ (l : List ℕ). compared l []) (drop_more name at 0 within)
 
   -- one byte more of both
-  step_on : (bytes name left rest : List ℕ) (at byte : ℕ) → compared bytes name ≡ compared left (drop at name) → left ≡ byte ∷ rest → at < length name → compared bytes name ≡ ordering_then (nat_cmp byte (get_or name at 0)) (compared rest (drop (at + 1) name))
-  step_on bytes name left rest at byte so_far first within =
-      so_far ∙ ap (λ (l : List ℕ). compared l (drop at name)) first ∙ ap (λ (l : List ℕ). compared (byte ∷ rest) l) (drop_more name at 0 within)
+  step_on : (name bytes left rest : List ℕ) (at byte : ℕ) → compared name bytes ≡ compared (drop at name) left → left ≡ byte ∷ rest → at < length name → compared name bytes ≡ ordering_then (nat_cmp (get_or name at 0) byte) (compared (drop (at + 1) name) rest)
+  step_on name bytes left rest at byte so_far first within =
+      so_far ∙ ap (λ (l : List ℕ). compared (drop at name) l) first ∙ ap (λ (l : List ℕ). compared l (byte ∷ rest)) (drop_more name at 0 within)
 
-  pub is_less : (bytes name : List ℕ) (at byte : ℕ) (s t : S) → Passed bytes name at s → steps s (Some byte) t → at < length name → nat_cmp byte (get_or name at 0) ≡ Less → compared bytes name ≡ Less
-  is_less bytes name at byte s t passed gave within c =
+  pub is_less : (name bytes : List ℕ) (at byte : ℕ) (s t : S) → Passed name bytes at s → steps s (Some byte) t → at < length name → nat_cmp (get_or name at 0) byte ≡ Less → compared name bytes ≡ Less
+  is_less name bytes at byte s t passed gave within c =
       let given = one_given s byte t passed.0 passed.1 gave in
-      step_on bytes name passed.0 given.0 at byte passed.2 given.1 within ∙ rw c refl
+      step_on name bytes passed.0 given.0 at byte passed.2 given.1 within ∙ rw c refl
 
-  pub is_greater : (bytes name : List ℕ) (at byte : ℕ) (s t : S) → Passed bytes name at s → steps s (Some byte) t → at < length name → nat_cmp byte (get_or name at 0) ≡ Greater → compared bytes name ≡ Greater
-  is_greater bytes name at byte s t passed gave within c =
+  pub is_greater : (name bytes : List ℕ) (at byte : ℕ) (s t : S) → Passed name bytes at s → steps s (Some byte) t → at < length name → nat_cmp (get_or name at 0) byte ≡ Greater → compared name bytes ≡ Greater
+  is_greater name bytes at byte s t passed gave within c =
       let given = one_given s byte t passed.0 passed.1 gave in
-      step_on bytes name passed.0 given.0 at byte passed.2 given.1 within ∙ rw c refl
+      step_on name bytes passed.0 given.0 at byte passed.2 given.1 within ∙ rw c refl
 
-  pub is_same : (bytes name : List ℕ) (at byte : ℕ) (s t : S) → Passed bytes name at s → steps s (Some byte) t → at < length name → nat_cmp byte (get_or name at 0) ≡ Equal → Passed bytes name (at + 1) t
-  is_same bytes name at byte s t passed gave within c =
+  pub is_same : (name bytes : List ℕ) (at byte : ℕ) (s t : S) → Passed name bytes at s → steps s (Some byte) t → at < length name → nat_cmp (get_or name at 0) byte ≡ Equal → Passed name bytes (at + 1) t
+  is_same name bytes at byte s t passed gave within c =
       let given = one_given s byte t passed.0 passed.1 gave in
-      (given.0, given.2, step_on bytes name passed.0 given.0 at byte passed.2 given.1 within ∙ rw c refl)
+      (given.0, given.2, step_on name bytes passed.0 given.0 at byte passed.2 given.1 within ∙ rw c refl)
 
-  pub ends_later : (bytes name : List ℕ) (at byte : ℕ) (s t : S) → Passed bytes name at s → steps s (Some byte) t → length name ≤ at → compared bytes name ≡ Greater
-  ends_later bytes name at byte s t passed gave past =
+  pub name_ends : (name bytes : List ℕ) (at byte : ℕ) (s t : S) → Passed name bytes at s → steps s (Some byte) t → length name ≤ at → compared name bytes ≡ Less
+  name_ends name bytes at byte s t passed gave past =
       let given = one_given s byte t passed.0 passed.1 gave in
-      passed.2 ∙ ap (λ (l : List ℕ). compared l (drop at name)) given.1 ∙ ap (λ (l : List ℕ). compared (byte ∷ given.0) l) (drop_all at name past)
+      passed.2 ∙ ap (λ (l : List ℕ). compared (drop at name) l) given.1 ∙ ap (λ (l : List ℕ). compared l (byte ∷ given.0)) (drop_all at name past)
 
-  pub ends_both : (bytes name : List ℕ) (at : ℕ) (s t : S) → Passed bytes name at s → steps s None t → length name ≤ at → compared bytes name ≡ Equal
-  ends_both bytes name at s t passed ended past =
-      passed.2 ∙ ap (λ (l : List ℕ). compared l (drop at name)) (none_left s t passed.0 passed.1 ended) ∙ ap (λ (l : List ℕ). compared [] l) (drop_all at name past)
+  pub both_end : (name bytes : List ℕ) (at : ℕ) (s t : S) → Passed name bytes at s → steps s None t → length name ≤ at → compared name bytes ≡ Equal
+  both_end name bytes at s t passed ended past =
+      passed.2 ∙ ap (λ (l : List ℕ). compared (drop at name) l) (none_left s t passed.0 passed.1 ended) ∙ ap (λ (l : List ℕ). compared l []) (drop_all at name past)
 
 pub slice_gives : (s : SliceBytes) → AlwaysYields (YieldsFirst (λ (t : SliceBytes). t.rest.now)) (λ b. b) s s.rest.now
 slice_gives s = (YieldsList-from_first (λ b. b) (λ (t : SliceBytes). t.rest.now) {s = s} s.rest.now refl).runs

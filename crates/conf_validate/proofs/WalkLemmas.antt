@@ -1,5 +1,5 @@
 -- The walk over members and items, place by place.
-use Rattle.std.proofs.Common.{◌≡◌, ℕ, zero, suc, ◌<◌, ◌≤◌, Bool, not, Option, length, get_or, sym, ◌∙◌, List, [], ◌∷◌, ◌++◌, Some, None, refl, ap, subst, arith}
+use Rattle.std.proofs.Common.{◌≡◌, ℕ, zero, suc, ◌<◌, ◌≤◌, Bool, not, Option, length, get_or, sym, ◌∙◌, List, [], ◌∷◌, ◌++◌, Some, refl, ap, subst, arith}
 use Rattle.serde_json.specs.Data.{Data, Members, no_members, member}
 use Rattle.serde_json.specs.Events.{members_len}
 use Rattle.conf_tree.specs.declared.tree.Tree.{Tree}
@@ -51,16 +51,6 @@ pub names_before-more : (ms : Members) (i : ℕ) (k : List ℕ) → name_at i ms
 names_before-more no_members i k a = absurd (cc a)
 names_before-more (member l e ms) zero k a = rw (same_name l k a, names_before-zero ms) refl
 names_before-more (member l e ms) (suc i) k a = ap (λ names. l ∷ names) (names_before-more ms i k a)
-
-pub behind-end : (ms : Members) (i : ℕ) → name_at i ms ≡ None → behind i ms ≡ no_members
-behind-end no_members i a = refl
-behind-end (member l e ms) zero a = absurd (cc a)
-behind-end (member l e ms) (suc i) a = behind-end ms i a
-
-pub behind-end_value : (ms : Members) (i : ℕ) → value_at i ms ≡ None → behind i ms ≡ no_members
-behind-end_value no_members i a = refl
-behind-end_value (member l e ms) zero a = absurd (cc a)
-behind-end_value (member l e ms) (suc i) a = behind-end_value ms i a
 
 pub behind-past : (ms : Members) (i : ℕ) → members_len ms ≤ i → behind i ms ≡ no_members
 behind-past no_members i h = refl

@@ -1,5 +1,5 @@
 -- What a valid document says.
-use Rattle.std.specs.Prelude.{ℕ, suc, ◌+◌, ◌^◌, ◌==◌, nat_lt, nat_le, List, [], ◌∷◌, ◌++◌, length, map, codes, Bool, true, false, Option, Some, None, option_and_then, option_map, if◌then◌else◌}
+use Rattle.std.specs.Prelude.{ℕ, suc, ◌+◌, ◌^◌, ◌==◌, nat_lt, nat_le, List, [], ◌∷◌, ◌++◌, length, map, codes, Bool, true, false, Option, Some, None, option_and_then, option_map, slice_get, if◌then◌else◌}
 use Rattle.std.specs.List.{flat_map, list_any}
 use Rattle.std.specs.Option.{option_to_list, unwrap_or}
 use Rattle.std.specs.Str.{bytes_eq, str_to_ascii_lowercase}
@@ -311,6 +311,17 @@ action_goal_among destinations (Return status) = None
 
 abbrev pub action_goal : Configuration → Action → Option Goal
 action_goal conf action = action_goal_among conf.destinations action
+
+-- the name of the handler of the application of this index
+abbrev pub handler_at : Configuration → ℕ → Option (List ℕ)
+handler_at conf app = slice_get (map (λ a. a.handler) conf.applications) app
+
+-- the texts of the `location` and the `rewrite` of the step of this index
+abbrev pub location_at : Configuration → ℕ → Option (List ℕ)
+location_at conf step = option_and_then (λ s. s.location) (slice_get conf.steps step)
+
+abbrev pub rewrite_at : Configuration → ℕ → Option (List ℕ)
+rewrite_at conf step = option_and_then (λ s. s.rewrite) (slice_get conf.steps step)
 
 -- the changes of a step, none where there is no such step
 abbrev pub changes_at : Option Step → List (List ℕ × Option (List ℕ))

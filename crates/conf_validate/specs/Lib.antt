@@ -9,3 +9,7 @@ pub mod Again
 pub mod Configuration
 pub mod Answers
 pub mod Kept
+pub mod Current
+pub mod Ports
+pub mod Laws
+pub mod Entries

@@ -1,6 +1,6 @@
 -- The table that knows nothing of variables, logs, rewritten paths and changed header fields, and the documents for which
 -- it is enough.
-use Rattle.std.specs.Prelude.{◌≡◌, ◌≢◌, ℕ, Bool, true, false, not, ◌&&◌, ◌||◌, List, [], ◌∷◌, ◌++◌, codes, Option, Some, None, All, IfSome, IsTrue}
+use Rattle.std.specs.Prelude.{◌≡◌, ◌≢◌, ℕ, Bool, true, false, not, ◌&&◌, ◌||◌, List, [], ◌∷◌, ◌++◌, codes, Option, Some, None, if◌then◌else◌, All, IfSome, IsTrue}
 use Rattle.std.specs.List.{Contains, flat_map}
 use Rattle.std.specs.Option.{is_some, option_to_list}
 use Rattle.std.specs.Str.{bytes_eq}
@@ -9,71 +9,38 @@ use Rattle.serde_json.specs.Find.{get}
 use Rattle.conf_validate.specs.Choices.{has, is_one}
 use Rattle.conf_validate.specs.Configuration.{items_list, list_in, part, steps_of_routes, text_in, values_list}
 use Rattle.conf_validate.specs.Forms.{is_address_pattern, is_in_line, is_text_pattern}
-use Rattle.conf_validate.specs.Table.{Entry, Table, a_number, a_text, a_text_or_array, an_array, an_object, an_object_or_array, nothing, optional, required}
+use Rattle.conf_validate.specs.Table.{Entry, Table, entries_of, nothing, row_of}
 use Rattle.conf_validate.specs.Targets.{is_target}
 use Rattle.conf_validate.specs.declared.conf.Step.{Step}
 use Rattle.conf_validate.specs.declared.place.Form.{Form}
 use Rattle.conf_validate.specs.declared.place.Form.TheVariants as form
-use Rattle.conf_validate.specs.declared.place.Names.TheVariants as names
 use Rattle.conf_validate.specs.declared.place.Place.{Place}
 use Rattle.conf_validate.specs.declared.place.Place.TheVariants as place
 use Rattle.conf_validate.specs.declared.place.Row.{Row}
 
 -- ---- the plain table
 
--- what may stand at a place; nothing at the places that this table doesn't have
+-- the places that this table doesn't have
+abbrev pub is_later : Place → Bool
+is_later place.Rewrite = true
+is_later place.ResponseHeaders = true
+is_later place.HeaderText = true
+is_later place.AccessLog = true
+is_later place.Format = true
+is_later other = false
+
+-- what may stand at a place; nothing at these
 unfoldable pub plain_row_of : Place → Row
-plain_row_of place.Whole = an_object names.Fixed
-plain_row_of place.Listeners = an_object (names.Listener place.Listener)
-plain_row_of place.Listener = an_object names.Fixed
-plain_row_of place.Routes = an_object_or_array (names.Target place.Steps) place.Step
-plain_row_of place.Steps = an_array place.Step
-plain_row_of place.Step = an_object names.Fixed
-plain_row_of place.Match = an_object names.Fixed
-plain_row_of place.Texts = a_text_or_array form.TextPattern place.Text
-plain_row_of place.Text = a_text form.TextPattern
-plain_row_of place.Addresses = a_text_or_array form.AddressPattern place.Address
-plain_row_of place.Address = a_text form.AddressPattern
-plain_row_of place.NamedTexts = an_object_or_array (names.Any place.Texts) place.NamedTextsItem
-plain_row_of place.NamedTextsItem = an_object (names.Any place.Texts)
-plain_row_of place.Action = an_object names.Fixed
-plain_row_of place.Pass = a_text form.Pass
-plain_row_of place.Return = a_number 0 999
-plain_row_of place.Location = a_text form.Location
-plain_row_of place.Applications = an_object (names.Target place.Application)
-plain_row_of place.Application = an_object names.Fixed
-plain_row_of place.Type = a_text form.External
-plain_row_of place.Executable = a_text form.Handler
-plain_row_of place.Limits = an_object names.Fixed
-plain_row_of place.Timeout = a_number 1 86400
-plain_row_of place.Settings = an_object names.Fixed
-plain_row_of place.Http = an_object names.Fixed
-plain_row_of place.MaxBodySize = a_number 0 10000000
-plain_row_of other = nothing
+plain_row_of p = if is_later p then nothing else row_of p
+
+-- the members whose values have another place
+abbrev pub earlier_entries : List Entry → List Entry
+earlier_entries [] = []
+earlier_entries (e ∷ es) = if is_later e.place then earlier_entries es else e ∷ earlier_entries es
 
 -- the members of the objects whose names are fixed
 unfoldable pub plain_entries_of : Place → List Entry
-plain_entries_of place.Whole =
-    optional (codes "listeners") place.Listeners ∷ optional (codes "routes") place.Routes
-    ∷ optional (codes "applications") place.Applications ∷ optional (codes "settings") place.Settings ∷ []
-plain_entries_of place.Listener = required (codes "pass") place.Pass ∷ []
-plain_entries_of place.Step = optional (codes "match") place.Match ∷ required (codes "action") place.Action ∷ []
-plain_entries_of place.Match =
-    optional (codes "uri") place.Texts ∷ optional (codes "host") place.Texts ∷ optional (codes "method") place.Texts
-    ∷ optional (codes "scheme") place.Texts ∷ optional (codes "query") place.Texts
-    ∷ optional (codes "source") place.Addresses ∷ optional (codes "destination") place.Addresses
-    ∷ optional (codes "arguments") place.NamedTexts ∷ optional (codes "cookies") place.NamedTexts
-    ∷ optional (codes "headers") place.NamedTexts ∷ []
-plain_entries_of place.Action =
-    optional (codes "pass") place.Pass ∷ optional (codes "return") place.Return
-    ∷ optional (codes "location") place.Location ∷ []
-plain_entries_of place.Application =
-    required (codes "type") place.Type ∷ required (codes "executable") place.Executable
-    ∷ optional (codes "limits") place.Limits ∷ []
-plain_entries_of place.Limits = optional (codes "timeout") place.Timeout ∷ []
-plain_entries_of place.Settings = optional (codes "http") place.Http ∷ []
-plain_entries_of place.Http = optional (codes "max_body_size") place.MaxBodySize ∷ []
-plain_entries_of other = []
+plain_entries_of p = earlier_entries (entries_of p)
 
 -- rule 5: a pass is any text, and a location has no CR, LF or NUL
 abbrev pub plain_form : Form → List ℕ → Bool

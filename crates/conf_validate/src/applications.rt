@@ -5,9 +5,9 @@ ghost use Rattle.conf_tree.specs.Document.{AreMembers, IsDocument};
 ghost use Rattle.conf_tree.specs.View.{data_of, map_data};
 ghost use Rattle.conf_validate.specs.Configuration.{application_of, applications_of, listener_of, listeners_of, members_list, text_in};
 
-use crate::compile::{number_in, part, text_in};
 use crate::conf::{Application, Listener};
 use crate::members::member_of;
+use crate::values::{number_in, part, text_in};
 use conf_tree::{Tree, TreeMap};
 use std::alloc::{AllocError, Global};
 use unit_types::Bytes;
@@ -31,15 +31,10 @@ fn applications_in(alloc: Global, members: &TreeMap) -> Result<Vec<Application>,
     requires { AreMembers (map_data members.now) }
     ensures { IfOk result (λ apps. apps.items ≡ map application_of (members_list (map_data members.now))) }
 {
-    let mut applications = Vec::with_capacity(alloc, members.len())?;
-    for index in 0..members.len() {
-        let Some(name) = members.key(index) else {
-            return Ok(applications);
-        };
-        let Some(value) = members.value(index) else {
-            return Ok(applications);
-        };
-        applications.push(application_of(alloc, name.as_slice(), value)?)?;
+    let list = members.members();
+    let mut applications = Vec::with_capacity(alloc, list.len())?;
+    for member in list {
+        applications.push(application_of(alloc, member.key.as_slice(), &member.value)?)?;
     }
     Ok(applications)
 }
@@ -81,15 +76,10 @@ fn listeners_in(alloc: Global, members: &TreeMap) -> Result<Vec<Listener>, Alloc
     requires { AreMembers (map_data members.now) }
     ensures { IfOk result (λ list. list.items ≡ map listener_of (members_list (map_data members.now))) }
 {
-    let mut listeners = Vec::with_capacity(alloc, members.len())?;
-    for index in 0..members.len() {
-        let Some(name) = members.key(index) else {
-            return Ok(listeners);
-        };
-        let Some(value) = members.value(index) else {
-            return Ok(listeners);
-        };
-        listeners.push(listener_of(alloc, name.as_slice(), value)?)?;
+    let list = members.members();
+    let mut listeners = Vec::with_capacity(alloc, list.len())?;
+    for member in list {
+        listeners.push(listener_of(alloc, member.key.as_slice(), &member.value)?)?;
     }
     Ok(listeners)
 }

@@ -1,7 +1,7 @@
 //! Configurations as they are used.
-ghost use Rattle.std.specs.Prelude.{◌≡◌, ◌<◌, length, option_and_then, option_map, slice_get, Some, map, List, ℕ};
+ghost use Rattle.std.specs.Prelude.{◌≡◌, ◌<◌, length, option_and_then, option_map, slice_get, Some, List, ℕ};
 ghost use Rattle.std.specs.Iterator.{AlwaysYields, IsFinite};
-ghost use Rattle.conf_validate.specs.Configuration.{action_goal, changes_at, goal_named, listener_index, plain_goal};
+ghost use Rattle.conf_validate.specs.Configuration.{action_goal, changes_at, goal_named, handler_at, listener_index, location_at, plain_goal, rewrite_at};
 ghost use Rattle.conf_validate.specs.Kept.{IsKept};
 
 use crate::matching::Match;
@@ -167,9 +167,11 @@ impl Conf {
         self.destinations.as_slice()
     }
 
-    /// The index of the listener of exactly this name.
-    pub fn listener(&self, name: &[u8]) -> Option<usize>
-        ensures { result ≡ listener_index name.now self.now.listeners }
+    /// The index of the listener whose name has exactly these bytes.
+    pub fn listener<I: Iterator<Item = u8> + Copy>(&self, name: I) -> Option<usize>
+        requires can { I.can_next name }
+        requires ends { IsFinite (I.remaining name) }
+        ensures { (bytes : List ℕ) → AlwaysYields I.next_gives (λ b. b) name bytes → result ≡ listener_index bytes self.now.listeners }
     {
         listener_at(self.listeners.as_slice(), name)
     }
@@ -214,14 +216,14 @@ impl Conf {
     /// The name of an application's handler.
     pub fn handler(&self, app: usize) -> &[u8]
         requires { app < length self.now.applications }
-        ensures { slice_get (map (λ a. a.handler) self.now.applications) app ≡ Some result.now }
+        ensures { handler_at self.now app ≡ Some result.now }
     {
         self.applications[app].handler.as_slice()
     }
 
     /// The text of a step's `location`, as written.
     pub fn location(&self, step: usize) -> Option<&[u8]>
-        ensures { option_map (λ t. t.now) result ≡ option_and_then (λ s. s.location) (slice_get self.now.steps step) }
+        ensures { option_map (λ t. t.now) result ≡ location_at self.now step }
     {
         match self.steps.get(step) {
             Some(step) => match &step.location {
@@ -234,7 +236,7 @@ impl Conf {
 
     /// The text of a step's `rewrite`, as written.
     pub fn rewrite(&self, step: usize) -> Option<&[u8]>
-        ensures { option_map (λ t. t.now) result ≡ option_and_then (λ s. s.rewrite) (slice_get self.now.steps step) }
+        ensures { option_map (λ t. t.now) result ≡ rewrite_at self.now step }
     {
         match self.steps.get(step) {
             Some(step) => match &step.rewrite {

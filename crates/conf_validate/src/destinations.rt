@@ -32,13 +32,11 @@ pub(crate) fn application_destinations(
 fn destinations_in(alloc: Global, members: &TreeMap) -> Result<Vec<Destination>, AllocError>
     ensures { IfOk result (λ list. list.items ≡ application_destinations 0 (members_list (map_data members.now))) }
 {
-    let mut destinations = Vec::with_capacity(alloc, members.len())?;
-    for index in 0..members.len() {
-        let Some(name) = members.key(index) else {
-            return Ok(destinations);
-        };
+    let list = members.members();
+    let mut destinations = Vec::with_capacity(alloc, list.len())?;
+    for (index, member) in list.iter().enumerate() {
         destinations.push(Destination {
-            name: joined(alloc, b"applications/", name.as_slice())?,
+            name: joined(alloc, b"applications/", member.key.as_slice())?,
             goal: Goal::Application(index),
         })?;
     }

@@ -60,8 +60,9 @@ fn is_rewrite(text: &[u8]) -> bool
     text.starts_with(b"/") && text.len() <= 1024 && is_location(text)
 }
 
-/// Whether the text is the format of an access log: at most 1,024 bytes and 32 variables, and no byte below 0x20.
-fn is_log_format(text: &[u8]) -> bool
+/// Whether the text is the format of an access log: at most 1,024 bytes, none of them below 0x20, and at most 32
+/// variables; each `$` begins a variable of a request, or `status`, `body_bytes_sent` or `request_line`.
+pub fn is_log_format(text: &[u8]) -> bool
     ensures { result ≡ is_log_format text.now }
 {
     text.len() <= 1024 && is_visible(text) && has_log_variables(text)

@@ -16,7 +16,7 @@ fn cut(text: &[u8], separator: u8) -> Option<(&[u8], &[u8])>
 }
 
 /// The decimal number of at most `limit` that the text spells.
-fn number_of(text: &[u8], limit: u16) -> Option<u16>
+pub(crate) fn number_of(text: &[u8], limit: u16) -> Option<u16>
     ensures value { result ≡ number_of limit text.now }
     ensures small { IfSome result (λ n. n ≤ limit) }
 {
@@ -62,7 +62,7 @@ fn is_host(text: &[u8]) -> bool
     text == b"*".as_slice() || are_numbers(3, text)
 }
 
-fn is_port(text: &[u8]) -> bool
+pub(crate) fn is_port(text: &[u8]) -> bool
     ensures { result ≡ is_port text.now }
 {
     is_number(text, 65535) && !(text == b"0".as_slice())

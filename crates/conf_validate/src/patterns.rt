@@ -6,9 +6,9 @@ ghost use Rattle.conf_tree.specs.Document.{IsDocument};
 ghost use Rattle.conf_tree.specs.View.{data_of, list_data, map_data};
 ghost use Rattle.conf_validate.specs.Configuration.{address_of, addresses_of, items_list, match_of, named, named_list, named_of, sets_of, text_or_nil, texts_of};
 
-use crate::compile::part;
 use crate::lower::lowercase;
 use crate::matching::{Match, NamedPatterns, NamedSet, NamedSets};
+use crate::values::part;
 use conf_tree::{Tree, TreeList, TreeMap};
 use pattern_addr::{AddrPattern, AddrPatterns};
 use pattern_text::{TextPattern, TextPatterns};
@@ -181,17 +181,12 @@ fn named_of(alloc: Global, lower: bool, tree: &Tree) -> Result<NamedSet, AllocEr
 fn named_list(alloc: Global, lower: bool, members: &TreeMap) -> Result<NamedSet, AllocError>
     ensures { IfOk result (λ set. set ≡ named_list lower (map_data members.now)) }
 {
-    let mut list = Vec::with_capacity(alloc, members.len())?;
-    for index in 0..members.len() {
-        let Some(name) = members.key(index) else {
-            return Ok(NamedSet::of(list));
-        };
-        let Some(value) = members.value(index) else {
-            return Ok(NamedSet::of(list));
-        };
-        list.push(named(alloc, lower, name.as_slice(), value)?)?;
+    let list = members.members();
+    let mut set = Vec::with_capacity(alloc, list.len())?;
+    for member in list {
+        set.push(named(alloc, lower, member.key.as_slice(), &member.value)?)?;
     }
-    Ok(NamedSet::of(list))
+    Ok(NamedSet::of(set))
 }
 
 fn named(alloc: Global, lower: bool, name: &[u8], value: &Tree) -> Result<NamedPatterns, AllocError>

@@ -7,12 +7,12 @@ ghost use Rattle.conf_validate.specs.Configuration.{action_of, changes_in, chang
 ghost use Rattle.conf_validate.specs.declared.conf.Goal.TheVariants as goal;
 ghost use Rattle.serde_json.specs.Find.{get};
 
-use crate::compile::{number_in, part, text_in};
 use crate::conf::{Action, Changes, Destination, Goal, Step};
 use crate::destinations::joined;
 use crate::members::member_of;
 use crate::patterns::match_of;
-use conf_tree::{Tree, TreeList, TreeMap};
+use crate::values::{number_in, part, text_in};
+use conf_tree::{Member, Tree, TreeList, TreeMap};
 use std::alloc::{AllocError, Global};
 use unit_types::Bytes;
 
@@ -64,14 +64,9 @@ fn named_routes(
     ensures destinations { IfOk result (λ _. destinations.new.items ≡ destinations.old.items ++ route_destinations 0 (members_list (map_data members.now))) }
 {
     let mut steps = Vec::new(alloc);
-    for index in 0..members.len() {
-        let Some(name) = members.key(index) else {
-            return Ok(steps);
-        };
-        let Some(value) = members.value(index) else {
-            return Ok(steps);
-        };
-        push_named(alloc, &mut steps, destinations, name.as_slice(), value)?;
+    let list = members.members();
+    for member in list {
+        push_named(alloc, &mut steps, destinations, member)?;
     }
     Ok(steps)
 }
@@ -81,18 +76,17 @@ fn push_named(
     alloc: Global,
     steps: &mut Vec<Step>,
     destinations: &mut Vec<Destination>,
-    name: &[u8],
-    route: &Tree,
+    route: &Member,
 ) -> Result<(), AllocError>
-    requires { IsDocument (data_of route.now) }
-    ensures steps { OnOk result (steps.new.items ≡ steps.old.items ++ map step_of (items_of (data_of route.now))) }
-    ensures destinations { OnOk result (destinations.new.items ≡ destinations.old.items ++ record { name = codes "routes/" ++ name.now; goal = goal.Route (length steps.old.items) (length (items_of (data_of route.now))) } ∷ []) }
+    requires { IsDocument (data_of route.now.value) }
+    ensures steps { OnOk result (steps.new.items ≡ steps.old.items ++ map step_of (items_of (data_of route.now.value))) }
+    ensures destinations { OnOk result (destinations.new.items ≡ destinations.old.items ++ record { name = codes "routes/" ++ route.now.key; goal = goal.Route (length steps.old.items) (length (items_of (data_of route.now.value))) } ∷ []) }
 {
     let first = steps.len();
-    push_route(alloc, steps, route)?;
+    push_route(alloc, steps, &route.value)?;
     let count = steps.len() - first;
     destinations.push(Destination {
-        name: joined(alloc, b"routes/", name)?,
+        name: joined(alloc, b"routes/", route.key.as_slice())?,
         goal: Goal::Route { first, count },
     })?;
     Ok(())
@@ -173,13 +167,11 @@ fn changes_of(alloc: Global, members: &TreeMap) -> Result<Changes, AllocError>
 fn changes_list(alloc: Global, members: &TreeMap) -> Result<Vec<(Bytes, Option<Bytes>)>, AllocError>
     ensures { IfOk result (λ changes. changes.items ≡ changes_list (map_data members.now)) }
 {
-    let mut changes = Vec::with_capacity(alloc, members.len())?;
-    for index in 0..members.len() {
-        let Some(name) = members.key(index) else {
-            return Ok(changes);
-        };
-        let text = text_in(alloc, members.value(index))?;
-        changes.push((Bytes::copy_of(alloc, name.as_slice())?, text))?;
+    let list = members.members();
+    let mut changes = Vec::with_capacity(alloc, list.len())?;
+    for member in list {
+        let text = text_in(alloc, Some(&member.value))?;
+        changes.push((Bytes::copy_of(alloc, member.key.as_slice())?, text))?;
     }
     Ok(changes)
 }

@@ -5,9 +5,10 @@ ghost use Rattle.conf_tree.specs.View.{map_data};
 ghost use Rattle.conf_validate.specs.Scopes.{context_of, IsScope};
 ghost use Rattle.conf_validate.specs.Choices.{is_choice, is_one};
 ghost use Rattle.conf_validate.specs.Table.{entries_of, whole_table};
-ghost use Rattle.conf_validate.specs.Valid.{broken, broken_if, for_some, has_required, is_choice_at, is_in_range, place_of, text_fault};
+ghost use Rattle.conf_validate.specs.Valid.{broken, broken_if, for_some, is_choice_at, is_in_range, place_of, text_fault};
 ghost use Rattle.serde_json.specs.Find.{of_integer};
 
+use crate::entries::member_place;
 use crate::fault::{Invalid, broken_if};
 use crate::forms::has_form;
 use crate::members::has;
@@ -56,20 +57,6 @@ pub(crate) fn text_fault(
     broken_if(alloc, !scope.has_handler(form, text), 8)
 }
 
-/// Rule 3: whether each required member is there.
-#[tactic(auto, unfolding(crate::specs::Table::entries_of))]
-pub(crate) fn has_required(place: Place, map: &TreeMap) -> bool
-    requires { AreMembers (map_data map.now) }
-    ensures { result ≡ has_required (entries_of place) (map_data map.now) }
-{
-    match place {
-        Place::Listener => has(map, b"pass"),
-        Place::Step => has(map, b"action"),
-        Place::Application => has(map, b"type") && has(map, b"executable"),
-        _ => true,
-    }
-}
-
 /// Rule 6: whether an action has exactly one of `pass` and `return`, no `location` without `return` and no `rewrite`
 /// without `pass`.
 pub(crate) fn is_choice_at(place: Place, map: &TreeMap) -> bool
@@ -105,7 +92,7 @@ pub(crate) fn place_of(place: Place, names: Names, again: bool, name: &[u8]) -> 
     ensures { result ≡ place_of (entries_of place) names again name.now }
 {
     match names {
-        Names::Fixed => place.member(name),
+        Names::Fixed => member_place(place, name),
         Names::Any(value) => Some(value),
         Names::Listener(value) => is_listener_name(name).then_some(value),
         Names::Target(value) => is_target_name(name).then_some(value),

@@ -9,65 +9,67 @@ ghost use Rattle.conf_validate.specs.Kept.{Ascends};
 use crate::conf::{Destination, Goal, Listener};
 use std::cmp::Ordering;
 
-/// The index of the listener of this name.
-pub(crate) fn listener_at(listeners: &[Listener], name: &[u8]) -> Option<usize>
-    requires { Ascends (map (λ l. l.name) listeners.now) }
-    ensures { result ≡ listener_index name.now listeners.now }
+/// The index of the listener whose name has these bytes.
+pub(crate) fn listener_at<I: Iterator<Item = u8> + Copy>(
+    listeners: &[Listener],
+    name: I,
+) -> Option<usize>
+    requires can { I.can_next name }
+    requires ends { IsFinite (I.remaining name) }
+    requires ascends { Ascends (map (λ l. l.name) listeners.now) }
+    ensures { (bytes : List ℕ) → AlwaysYields I.next_gives (λ b. b) name bytes → result ≡ listener_index bytes listeners.now }
 {
-    let mut low = 0;
-    let mut high = listeners.len();
-    while low < high {
-        let middle = low + (high - low) / 2;
-        match name.cmp(&listeners[middle].name.as_slice()) {
-            Ordering::Less => high = middle,
-            Ordering::Equal => return Some(middle),
-            Ordering::Greater => low = middle + 1,
-        }
-    }
-    None
+    listeners
+        .binary_search_by(
+            |listener: &Listener| -> Ordering
+                requires can { I.can_next name }
+                requires ends { IsFinite (I.remaining name) }
+                ensures { (bytes : List ℕ) → AlwaysYields I.next_gives (λ b. b) name bytes → result ≡ slice_cmp nat_cmp listener.now.name bytes }
+            { compare(listener.name.as_slice(), name) },
+        )
+        .ok()
 }
 
 /// Where the destination leads whose name has these bytes.
 pub(crate) fn goal_at<I: Iterator<Item = u8> + Copy>(
     destinations: &[Destination],
-    text: I,
+    name: I,
 ) -> Option<Goal>
-    requires can { I.can_next text }
-    requires ends { IsFinite (I.remaining text) }
+    requires can { I.can_next name }
+    requires ends { IsFinite (I.remaining name) }
     requires ascends { Ascends (map (λ d. d.name) destinations.now) }
-    ensures { (bytes : List ℕ) → AlwaysYields I.next_gives (λ b. b) text bytes → result ≡ goal_named bytes destinations.now }
+    ensures { (bytes : List ℕ) → AlwaysYields I.next_gives (λ b. b) name bytes → result ≡ goal_named bytes destinations.now }
 {
-    let mut low = 0;
-    let mut high = destinations.len();
-    while low < high {
-        let middle = low + (high - low) / 2;
-        match compare(text, destinations[middle].name.as_slice()) {
-            Ordering::Less => high = middle,
-            Ordering::Equal => return Some(destinations[middle].goal),
-            Ordering::Greater => low = middle + 1,
-        }
+    match destinations.binary_search_by(
+        |destination: &Destination| -> Ordering
+            requires can { I.can_next name }
+            requires ends { IsFinite (I.remaining name) }
+            ensures { (bytes : List ℕ) → AlwaysYields I.next_gives (λ b. b) name bytes → result ≡ slice_cmp nat_cmp destination.now.name bytes }
+        { compare(destination.name.as_slice(), name) },
+    ) {
+        Ok(index) => Some(destinations[index].goal),
+        Err(_) => None,
     }
-    None
 }
 
-/// How the bytes compare with a name.
-fn compare<I: Iterator<Item = u8> + Copy>(mut text: I, name: &[u8]) -> Ordering
+/// How a name compares with these bytes.
+fn compare<I: Iterator<Item = u8> + Copy>(name: &[u8], mut text: I) -> Ordering
     requires can { I.can_next text }
     requires ends { IsFinite (I.remaining text) }
-    ensures { (bytes : List ℕ) → AlwaysYields I.next_gives (λ b. b) text bytes → result ≡ slice_cmp nat_cmp bytes name.now }
+    ensures { (bytes : List ℕ) → AlwaysYields I.next_gives (λ b. b) text bytes → result ≡ slice_cmp nat_cmp name.now bytes }
 {
-    for wanted in name {
-        let Some(byte) = text.next() else {
-            return Ordering::Less;
+    for byte in name {
+        let Some(other) = text.next() else {
+            return Ordering::Greater;
         };
-        match byte.cmp(wanted) {
+        match byte.cmp(&other) {
             Ordering::Less => return Ordering::Less,
             Ordering::Equal => {}
             Ordering::Greater => return Ordering::Greater,
         }
     }
     match text.next() {
-        Some(_) => Ordering::Greater,
+        Some(_) => Ordering::Less,
         None => Ordering::Equal,
     }
 }

@@ -6,11 +6,12 @@ ghost use Rattle.conf_validate.specs.Scopes.{context_of, IsScope};
 ghost use Rattle.conf_validate.specs.Table.{entries_of, whole_table};
 ghost use Rattle.conf_validate.specs.Valid.{broken, broken_if, fault_of, for_some, has_required, is_choice_at, items_fault, members_fault, or_then, value_fault};
 
+use crate::entries::has_required;
 use crate::fault::{Invalid, broken_if};
 use crate::lower::LowerNames;
 use crate::place::{Names, Place};
 use crate::references::Scope;
-use crate::rules::{has_required, is_choice_at, number_fault, place_of, text_fault};
+use crate::rules::{is_choice_at, number_fault, place_of, text_fault};
 use conf_tree::{Tree, TreeList, TreeMap};
 use std::alloc::{AllocError, Global};
 use unit_types::Bytes;
@@ -117,16 +118,16 @@ fn members_fault(
     ensures { IfOk result (λ fault. fault ≡ members_fault whole_table (context_of scope.now) (entries_of place) names [] (map_data map.now)) }
 {
     let mut earlier = LowerNames::new(alloc);
-    for index in 0..map.len() {
-        let Some(key) = map.key(index) else {
-            return Ok(None);
-        };
-        let Some(value) = map.value(index) else {
-            return Ok(None);
-        };
-        let name = key.as_slice();
+    let list = map.members();
+    for member in list {
+        let name = member.key.as_slice();
         let again = earlier.meet_of(alloc, names, name)?;
-        match member_fault(alloc, scope, place_of(place, names, again, name), value)? {
+        match member_fault(
+            alloc,
+            scope,
+            place_of(place, names, again, name),
+            &member.value,
+        )? {
             Some(fault) => return Ok(Some(fault.below(alloc, name)?)),
             None => {}
         }

@@ -1,5 +1,6 @@
 pub mod Matches
-pub mod Plain
 pub mod Source
 pub mod Target
 pub mod There
+pub mod Passes
+pub mod Plain

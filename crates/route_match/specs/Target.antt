@@ -1,5 +1,5 @@
 -- Where a configuration sends a request: a walk over passes, of which the listener's is the first.
-use Rattle.std.specs.Prelude.{ℕ, zero, suc, ◌+◌, ◌==◌, List, [], ◌∷◌, take, drop, Option, Some, None, option_map, option_and_then, slice_get, if◌then◌else◌}
+use Rattle.std.specs.Prelude.{ℕ, zero, suc, ◌+◌, List, [], ◌∷◌, take, drop, Option, Some, None, option_map, option_and_then, slice_get, if◌then◌else◌}
 use Rattle.std.specs.Option.{option_or}
 use Rattle.path_normal.specs.Variables.{expansion_of, escaped_expansion_of}
 use Rattle.unit_types.specs.declared.message.Request.{Request}
@@ -9,7 +9,8 @@ use Rattle.conf_validate.specs.declared.conf.Goal.{Goal}
 use Rattle.conf_validate.specs.declared.conf.Goal.TheVariants.{Application, Route}
 use Rattle.conf_validate.specs.declared.conf.Listener.{Listener}
 use Rattle.conf_validate.specs.declared.conf.Step.{Step}
-use Rattle.conf_validate.specs.Configuration.{Configuration, listener_index, goal_named}
+use Rattle.conf_validate.specs.Configuration.{Configuration, goal_named, listener_index, location_at}
+use Rattle.conf_validate.specs.Ports.{port_text}
 use Rattle.route_match.specs.declared.target.Target.{Target}
 use Rattle.route_match.specs.declared.target.Target.TheVariants as target
 use Rattle.route_match.specs.declared.walk.Progress.{Progress}
@@ -19,18 +20,13 @@ use Rattle.route_match.specs.Matches.{request_matches}
 
 -- ---- the listener
 
--- what stands behind the last `:` of a text that has one
-abbrev pub behind_last_colon : List ℕ → Option (List ℕ)
-behind_last_colon [] = None
-behind_last_colon (b ∷ bs) = option_or (behind_last_colon bs) (if b == 58 then Some bs else None)
-
 -- the index of the listener `*:` with this port
 abbrev pub any_address_at : Configuration → List ℕ → Option ℕ
 any_address_at conf port = listener_index (42 ∷ 58 ∷ port) conf.listeners
 
 -- the index of the listener `*:` with the port of this name, which is what stands behind its last `:`
 abbrev pub any_address_for : Configuration → List ℕ → Option ℕ
-any_address_for conf name = option_and_then (any_address_at conf) (behind_last_colon name)
+any_address_for conf name = option_and_then (any_address_at conf) (port_text name)
 
 -- the index of the listener of exactly this name, else of the one named `*:` and the same port
 abbrev pub listener_for : Configuration → List ℕ → Option ℕ
@@ -117,5 +113,4 @@ last_step_of conf listener request = (outcome_of conf listener request).step
 
 -- the text of a step's `location`, each variable's value in its place, escaped
 abbrev pub location_of : Configuration → ℕ → Request → Option (List ℕ)
-location_of conf step request =
-    option_map (λ text. escaped_expansion_of text request) (option_and_then (λ s. s.location) (slice_get conf.steps step))
+location_of conf step request = option_map (λ text. escaped_expansion_of text request) (location_at conf step)

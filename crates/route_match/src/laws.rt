@@ -6,8 +6,22 @@ ghost use Rattle.conf_validate.specs.Configuration.{Configuration, configuration
 ghost use Rattle.conf_validate.specs.Kept.{IsKept};
 ghost use Rattle.conf_validate.specs.Plain.{IsPlain};
 ghost use Rattle.route_match.specs.Plain.{HasPlainLocation, HasPlainPasses, plain_last_step_of, plain_location_of, plain_target_of};
-ghost use Rattle.route_match.specs.Target.{last_step_of, location_of, target_of};
-ghost use Rattle.route_match.specs.There.{IsTargetThere};
+ghost use Rattle.route_match.specs.Passes.{Ends};
+ghost use Rattle.route_match.specs.Target.{last_step_of, location_of, outcome_of, target_of};
+ghost use Rattle.route_match.specs.There.{IsOutcome, IsTargetThere};
+ghost use Rattle.route_match.specs.declared.walk.Outcome.{Outcome};
+
+/// What an outcome tells is so: an application and its timeout are those of the configuration, and the step passes; a
+/// return is what its step does; and what ends without a step has the status 404 or 500.
+pub fn outcomes_are_there()
+    ensures { (conf : Configuration) (listener : List ℕ) (request : Request) → IsKept conf → IsOutcome conf (outcome_of conf listener request) }
+{}
+
+/// The outcome is what the relation over passes says, and it says one alone.
+pub fn outcomes_follow_passes()
+    ensures is { (conf : Configuration) (listener : List ℕ) (request : Request) → Ends conf request listener (outcome_of conf listener request) }
+    ensures one { (conf : Configuration) (listener : List ℕ) (request : Request) (outcome : Outcome) → Ends conf request listener outcome → outcome ≡ outcome_of conf listener request }
+{}
 
 /// The application or the step of each target is one of the configuration.
 pub fn targets_are_there()

@@ -2,7 +2,7 @@ ghost use Rattle.std.specs.Prelude.{◌≤◌, All, IfOk, length};
 ghost use Rattle.conf_tree.specs.Document.{IsDocument};
 ghost use Rattle.conf_tree.specs.View.{data_of};
 
-use crate::{Target, last_step, location_of, request_matches, route};
+use crate::{Target, last_step, location_of, outcome, request_matches, route};
 use conf_tree::{Tree, read_tree};
 use conf_validate::{Conf, validate};
 use std::alloc::{AllocError, Global};
@@ -231,6 +231,8 @@ fn row(listener: &'static str, target: Target, step: Option<usize>) -> Case {
 fn goes(rt: &(impl Abort + AllocGlobal), conf: &Conf, row: &Case) -> Result<(), Fail> {
     let request = request_of(rt.alloc(), &row.asked)?;
     let listener = row.listener.as_bytes();
+    let both = outcome(conf, listener, &request);
+    assert!(rt; both.target == row.target && both.step == row.step);
     assert!(rt;
         route(conf, listener, &request) == row.target,
         "another target"

@@ -1,27 +1,26 @@
 //! The walk over passes. No call takes memory.
-ghost use Rattle.std.specs.Prelude.{◌≡◌, ◌∷◌, MatchOption, Some, None, slice_get};
-ghost use Rattle.std.specs.Cmp.Lexicographic.{slice_cmp};
-ghost use Rattle.std.specs.Ordering.{nat_cmp};
-ghost use Rattle.conf_validate.specs.Configuration.{plain_goal};
-ghost use Rattle.route_match.specs.Target.{any_address_at, any_address_for, behind_last_colon, listener_for, step_taken, timeout_of, arrived, refused, goal_of, at_action, advance, walk, outcome_of};
+ghost use Rattle.std.specs.Prelude.{◌≡◌, MatchOption, Some, None, slice_get};
+ghost use Rattle.conf_validate.specs.Configuration.{listener_index, plain_goal};
+ghost use Rattle.route_match.specs.Target.{any_address_at, any_address_for, listener_for, step_taken, timeout_of, arrived, refused, goal_of, at_action, advance, walk, outcome_of};
 
+use crate::chained::Chained;
 use crate::matching::request_matches;
 use crate::target::Target;
-use conf_validate::{Action, Conf, Goal, Step};
+use conf_validate::{Action, Conf, Goal, Step, port_text};
 use path_normal::expansion_in;
-use std::cmp::Ordering;
 use unit_types::Request;
 
 /// How many passes a request may take.
 const MOST_PASSES: u8 = 255;
 
-/// Where a walk ends.
-#[derive(Clone, Copy, Drop)]
-pub(crate) struct Outcome {
-    /// Where the request goes.
-    pub(crate) target: Target,
-    /// The step by which it came there.
-    pub(crate) step: Option<usize>,
+/// Where a request goes, and by which step.
+#[derive(Debug, Clone, Copy, PartialEq, Eq, Drop)]
+pub struct Outcome {
+    /// Where it goes.
+    pub target: Target,
+    /// The index of the step by which it came to an application or a return. None where it came to neither, and where
+    /// the listener's own pass leads to an application.
+    pub step: Option<usize>,
 }
 
 /// What a pass comes to.
@@ -52,30 +51,31 @@ pub(crate) fn outcome_of(conf: &Conf, listener: &[u8], request: &Request) -> Out
 fn listener_for(conf: &Conf, name: &[u8]) -> Option<usize>
     ensures { result ≡ listener_for conf.now name.now }
 {
-    if let Some(index) = conf.listener(name) {
+    if let Some(index) = named(conf, name) {
         return Some(index);
     }
     any_address_for(conf, name)
+}
+
+/// The index of the listener of exactly this name.
+fn named(conf: &Conf, name: &[u8]) -> Option<usize>
+    ensures { result ≡ listener_index name.now conf.now.listeners }
+{
+    conf.listener(Chained::of(name, b""))
 }
 
 /// The index of the listener named `*:` and the port of this name.
 fn any_address_for(conf: &Conf, name: &[u8]) -> Option<usize>
     ensures { result ≡ any_address_for conf.now name.now }
 {
-    any_address_at(conf, behind_last_colon(name)?)
+    any_address_at(conf, port_text(name)?)
 }
 
-/// What stands behind the last `:`, if there is one.
-fn behind_last_colon(name: &[u8]) -> Option<&[u8]>
-    ensures { MatchOption result (behind_last_colon name.now ≡ None) (λ port. behind_last_colon name.now ≡ Some port.now) }
+/// The index of the listener named `*:` and this port.
+fn any_address_at(conf: &Conf, port: &[u8]) -> Option<usize>
+    ensures { result ≡ any_address_at conf.now port.now }
 {
-    let mut behind = None;
-    for (at, byte) in name.iter().enumerate() {
-        if *byte == b':' {
-            behind = Some(&name[at + 1..]);
-        }
-    }
-    behind
+    conf.listener(Chained::of(b"*:", port))
 }
 
 /// The walk from what the listener's pass names.
@@ -188,26 +188,5 @@ fn goal_of(conf: &Conf, known: Option<Goal>, pass: &[u8], request: &Request) -> 
     match known {
         Some(goal) => Some(goal),
         None => conf.goal(expansion_in(pass, request)),
-    }
-}
-
-/// The index of the listener named `*:` and this port.
-fn any_address_at(conf: &Conf, port: &[u8]) -> Option<usize>
-    ensures { result ≡ any_address_at conf.now port.now }
-{
-    // The search needs that the names ascend.
-    conf.is_kept();
-    conf.listeners()
-        .binary_search_by(|listener| compare_any_address(listener.name.as_slice(), port))
-        .ok()
-}
-
-/// How the name compares with `*:` and this port, byte by byte.
-fn compare_any_address(name: &[u8], port: &[u8]) -> Ordering
-    ensures { result ≡ slice_cmp nat_cmp name.now (42 ∷ 58 ∷ port.now) }
-{
-    match name.strip_prefix(b"*:") {
-        Some(rest) => rest.cmp(&port),
-        None => name.cmp(&b"*:".as_slice()),
     }
 }

@@ -1,7 +1,8 @@
 //! What a configuration has by name, and where its passes lead.
 use crate::search::SliceBytes;
 use crate::tests::configuration;
-use crate::{Action, Conf, Goal};
+use crate::{Action, Conf, Current, Goal, is_log_format, port_of, port_text};
+use std::sync::Arc;
 use std::test::Fail;
 
 fn is_route(goal: Option<Goal>, wanted_first: usize, wanted_count: usize) -> bool {
@@ -25,7 +26,9 @@ fn goal_of(conf: &Conf, text: &str) -> Option<Goal> {
 }
 
 fn listener_of(conf: &Conf, name: &str) -> Option<usize> {
-    conf.listener(name.as_bytes())
+    conf.listener(SliceBytes {
+        rest: name.as_bytes(),
+    })
 }
 
 /// Two applications, two listeners, and routes without names.
@@ -179,5 +182,32 @@ fn an_empty_document_has_none(rt: HostRuntime) -> Result<(), Fail> {
     assert!(rt; goal_of(&conf, "routes").is_none());
     assert!(rt; conf.listener_goal(0).is_none());
     assert!(rt; conf.step_goal(0).is_none());
+    Ok(())
+}
+
+#[test]
+fn finds_ports(rt: HostRuntime) -> Result<(), Fail> {
+    assert!(rt; port_of(b"*:8080") == Some(8080));
+    assert!(rt; port_of(b"a:1:65535") == Some(65535));
+    assert!(rt; port_of(b"x:08080").is_none());
+    assert!(rt; port_of(b"x:0").is_none());
+    assert!(rt; port_of(b"x").is_none());
+    assert!(rt; port_text(b"x:08080").expect(&rt, "a text") == b"08080".as_slice());
+    Ok(())
+}
+
+#[test]
+fn knows_formats_of_logs(rt: HostRuntime) -> Result<(), Fail> {
+    assert!(rt; is_log_format(b"$remote_addr $status"));
+    assert!(rt; !is_log_format(b"$none"));
+    Ok(())
+}
+
+#[test]
+fn shares_a_configuration(rt: HostRuntime) -> Result<(), Fail> {
+    let conf = Arc::new(rt.alloc(), configuration(rt.alloc(), "{}")?)?;
+    let current = Current { number: 3, conf };
+    let other = current.another()?;
+    assert!(rt; other.number == 3 && other.conf.max_body() == 8388608);
     Ok(())
 }

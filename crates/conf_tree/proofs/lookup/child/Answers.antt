@@ -1,11 +1,8 @@
 use Rattle.std.proofs.Common.{rules, ◌≡◌, sym, ap, ◌∙◌, Some, length, arith}
 use Rattle.conf_tree.specs.Paths.{child}
 use Rattle.conf_tree.specs.View.{data_of}
-use Rattle.conf_tree.specs.declared.tree.Member.{Member}
-use Rattle.conf_tree.specs.declared.tree.TreeMap.{out-TreeMap}
 use Rattle.conf_tree.proofs.Views.{data_of-List, data_of-Object}
-use Rattle.conf_tree.proofs.Children.{child_item, child_no_item, child_member}
-use Rattle.conf_tree.proofs.Members.{get_unnamed}
+use Rattle.conf_tree.proofs.Children.{child_item, child_no_item}
 use Rattle.conf_tree.proofs.lookup.child.Goals as goal
 
 pub returns-in-Some : goal.returns-in-Some
@@ -26,15 +23,7 @@ returns-in-None c =
     let count : c.len.result ≡ length items.items = search rules in
     sym (ap (child k) seen ∙ child_no_item k items.items (λ i e. omega (arith, c.in-None.ensures i e)))
 
-pub returns-in-Ok : goal.returns-in-Ok
-returns-in-Ok c =
-    let k = c.args.key.now in
-    let map = c.in-Object.map in
-    let seen = ap data_of c.in-Object.is ∙ data_of-Object map in
-    ap (λ (m : Member). Some (data_of m.value)) c.index-in-Ok.ensures
-    ∙ sym (ap (child k) seen ∙ child_member k (out-TreeMap map).members.items c.in-Ok.index c.index-in-Ok.result.now c.in-Ok.ensures)
-
-pub returns-in-Err : goal.returns-in-Err
-returns-in-Err c =
+pub returns-in-Object : goal.returns-in-Object
+returns-in-Object c =
     let seen = ap data_of c.in-Object.is ∙ data_of-Object c.in-Object.map in
-    sym (ap (child c.args.key.now) seen ∙ get_unnamed c.args.key.now _ _ c.in-Err.ensures)
+    c.get.ensures.value ∙ sym (ap (child c.args.key.now) seen)

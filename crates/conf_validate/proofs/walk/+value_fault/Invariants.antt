@@ -27,8 +27,8 @@ abbrev pub invariant-items_fault-loop-index : goal.invariant-items_fault-loop-in
 invariant-items_fault-loop-index l =
     items_fault whole_table (context_of l.scope) l.place 0 (list_data l.items.items) ≡ items_fault whole_table (context_of l.scope) l.place l.index (list_data (drop l.index l.items.items))
 
-abbrev pub invariant-members_fault-loop-index : goal.invariant-members_fault-loop-index
-invariant-members_fault-loop-index l = record {
-  known : KnowsOf l.names l.earlier (names_before l.index (map_data l.map));
-  same : members_fault whole_table (context_of l.scope) (entries_of l.place) l.names [] (map_data l.map) ≡ members_fault whole_table (context_of l.scope) (entries_of l.place) l.names (names_before l.index (map_data l.map)) (behind l.index (map_data l.map));
+abbrev pub invariant-members_fault-loop-member : goal.invariant-members_fault-loop-member
+invariant-members_fault-loop-member l = record {
+  known : KnowsOf l.names l.earlier (names_before l.member-index (map_data l.map));
+  same : members_fault whole_table (context_of l.scope) (entries_of l.place) l.names [] (map_data l.map) ≡ members_fault whole_table (context_of l.scope) (entries_of l.place) l.names (names_before l.member-index (map_data l.map)) (behind l.member-index (map_data l.map));
 }
