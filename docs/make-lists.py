@@ -125,16 +125,19 @@ def definitions():
     return "\n".join(out)
 
 
+def edits_of(crate):
+    """How many edits of a crate the gate tries, and how many more there are."""
+    return " + ".join(str(len(glob.glob(os.path.join(TOP, "crates", crate, kind, "*.edit")))) for kind in ("must-fail", "refused"))
+
+
 def layers():
-    stand, out = standing(), []
-    for title, on, is_in in (("The crates that stand", "Stands on", True), ("The crates to come", "Is to stand on, most of all", False)):
-        out.append("## %s\n\n| Layer | Crate | Does | %s |\n|---|---|---|---|" % (title, on))
-        for layer, crate, does, *planned in rows_of("layers.tsv"):
-            if (crate in stand) == is_in:
-                below = stand.get(crate, " ".join(planned).split())
-                out.append("| %s | `%s` | %s | %s |" % (layer, crate, does, ", ".join("`%s`" % name for name in below)))
-        out.append("")
-    return out
+    stand, out = standing(), ["## The crates that stand\n\nEdits: those that the gate must refuse, and those of `refused/`.\n\n| Layer | Crate | Does | Stands on | Edits |\n|---|---|---|---|---|"]
+    planned = [(layer, crate, does, " ".join(below).split()) for layer, crate, does, *below in rows_of("layers.tsv")]
+    named = lambda crates: ", ".join("`%s`" % crate for crate in crates)
+    out.extend("| %s | `%s` | %s | %s | %s |" % (layer, crate, does, named(stand[crate]), edits_of(crate)) for layer, crate, does, _ in planned if crate in stand)
+    out.append("\n## The crates to come\n\n| Layer | Crate | Does | Is to stand on, most of all |\n|---|---|---|---|")
+    out.extend("| %s | `%s` | %s | %s |" % (layer, crate, does, named(below)) for layer, crate, does, below in planned if crate not in stand)
+    return [*out, ""]
 
 
 def files():
