@@ -1,12 +1,15 @@
 -- What an answer of a reader can be.
-use Rattle.std.proofs.Common.{ℕ, ◌<◌, ◌≡◌, ◌∙◌, sym, ap, refl, arith, Bool, true, false, if◌then◌else◌, ◌&&◌, not}
+use Rattle.std.proofs.Common.{ℕ, ◌<◌, ◌≡◌, ◌∙◌, sym, ap, refl, arith, Bool, true, false, if◌then◌else◌, ◌&&◌, ◌||◌, not, Option, Some, None}
 use Rattle.std.proofs.lemmas.Bool.{false≢true}
+use Rattle.std.specs.Option.{is_some}
 use Rattle.http_front.specs.declared.reader.Next.{Next}
 use Rattle.http_front.specs.declared.reader.Next.TheVariants as Answer
+use Rattle.http_front.specs.Front.{head_begun}
 use Rattle.http_front.specs.NextUnit.{Found, request, bad, cut, finished, wait, NextUnit, next_unit}
-use Rattle.http_front.specs.Reading.{Reading, limit_or, unit_in, answer_for, asks_now, unit_answer, next_answer, next_reading}
+use Rattle.http_front.specs.Reading.{Reading, limit_or, unit_in, answer_for, is_request, is_final, asks_now, unit_answer, kept_limit, next_answer, next_reading, has_begun}
 use Rattle.http_front.proofs.ReaderLemmas.{error_status}
 use Rattle.http_front.proofs.StayLemmas.{ended_tells}
+use Rattle.http_front.proofs.UnitLemmas.{unbegun_alike}
 
 -- but for `Continue`, an answer tells what was found
 pub found_answer : (r : Reading) (unit : NextUnit) (answer : Next) → unit_answer r unit ≡ answer → (answer ≡ Answer.Continue → ⊥)
@@ -82,3 +85,78 @@ continue_once r limit again is =
     let asks : asks_now r (unit_in r limit) ≡ true = continue_answer r (unit_in r limit) is in
     let after : (next_reading r limit).is_told ≡ true = rw asks refl in
     told_idle (next_reading r limit) (unit_in (next_reading r limit) again) after
+
+pub told_once : (r : Reading) (limit : ℕ) → r.is_told ≡ true → next_answer r limit ≡ Answer.Continue → ⊥
+told_once r limit told is = told_idle r (unit_in r limit) told is
+
+-- ---- what an answer leaves that is no request
+
+-- a reading with the limit that counts
+abbrev with_limit : Reading → ℕ → Reading
+with_limit r limit = record r { limit = kept_limit (head_begun r.unread) r.limit limit }
+
+answer_is : (r : Reading) (limit : ℕ) (asks : Bool) → asks_now r (unit_in r limit) ≡ asks
+    → next_answer r limit ≡ (if asks then Answer.Continue else answer_for r (unit_in r limit).found)
+answer_is r limit asks is = ap (λ t. if t then Answer.Continue else answer_for r (unit_in r limit).found) is
+
+next_found : (r : Reading) (limit : ℕ) (f : Found) → asks_now r (unit_in r limit) ≡ false → (unit_in r limit).found ≡ f → is_request (answer_for r f) ≡ false
+    → next_reading r limit ≡ with_limit r limit
+next_found r limit (request m used) idle is none = cc
+next_found r limit (bad status) idle is none = rw (idle, is) refl
+next_found r limit cut idle is none = rw (idle, is) refl
+next_found r limit finished idle is none = rw (idle, is) refl
+next_found r limit wait idle is none = rw (idle, is) refl
+
+-- the reading behind an answer: `Continue` was told, or all stays but the limit
+next_left : (r : Reading) (limit : ℕ) (asks : Bool) → asks_now r (unit_in r limit) ≡ asks → is_request (next_answer r limit) ≡ false
+    → next_reading r limit ≡ record (with_limit r limit) { is_told = if asks then true else r.is_told }
+next_left r limit true asks none = rw asks refl
+next_left r limit false idle none = next_found r limit (unit_in r limit).found idle refl (sym (ap is_request (answer_is r limit false idle)) ∙ none)
+
+told_kept : (asks told : Bool) → told ≡ true → (if asks then true else told) ≡ true
+told_kept true told is = refl
+told_kept false told is = is
+
+pub told_stays : (r : Reading) (limit : ℕ) → r.is_told ≡ true → is_request (next_answer r limit) ≡ false → (next_reading r limit).is_told ≡ true
+told_stays r limit told none =
+    let asks = asks_now r (unit_in r limit) in
+    ap (λ (q : Reading). q.is_told) (next_left r limit asks refl none) ∙ told_kept asks r.is_told told
+
+pub told_now : (r : Reading) (limit : ℕ) → next_answer r limit ≡ Answer.Continue → (next_reading r limit).is_told ≡ true
+told_now r limit is = let asks : asks_now r (unit_in r limit) ≡ true = continue_answer r (unit_in r limit) is in rw asks refl
+
+some_limit : (begun : Bool) (kept : Option ℕ) (limit : ℕ) → is_some (kept_limit begun kept limit) ≡ (begun || is_some kept)
+some_limit true kept limit = refl
+some_limit false kept limit = refl
+
+pub begun_now : (r : Reading) (limit : ℕ) → is_request (next_answer r limit) ≡ false → has_begun (next_reading r limit) ≡ (head_begun r.unread || has_begun r)
+begun_now r limit none =
+    ap has_begun (next_left r limit (asks_now r (unit_in r limit)) refl none) ∙ some_limit (head_begun r.unread) r.limit limit
+
+-- ---- the last answer comes again
+
+unit_again : (r : Reading) (limit again : ℕ) → unit_in (with_limit r limit) again ≡ unit_in r limit
+unit_again r limit again = by_begun (head_begun r.unread) refl
+  where
+    by_begun : (t : Bool) → head_begun r.unread ≡ t
+        → next_unit r.unread r.ended (limit_or (kept_limit t r.limit limit) again) ≡ unit_in r limit
+    by_begun true is = refl
+    by_begun false is = unbegun_alike r.unread r.ended (limit_or r.limit again) (limit_or r.limit limit) is
+
+final_found : (answer : Next) → is_final answer ≡ true → is_request answer ≡ false
+final_found (Answer.Request q) is = cc
+final_found (Answer.Bad status) is = refl
+final_found Answer.Cut is = refl
+final_found Answer.End is = refl
+final_found Answer.NeedMore is = refl
+final_found Answer.Continue is = refl
+
+final_idle : (r : Reading) (limit : ℕ) (asks : Bool) → asks_now r (unit_in r limit) ≡ asks → is_final (next_answer r limit) ≡ true → asks ≡ false
+final_idle r limit true asks final = absurd (false≢true (sym (ap is_final (answer_is r limit true asks)) ∙ final))
+final_idle r limit false idle final = refl
+
+pub final_again : (r : Reading) (limit again : ℕ) → is_final (next_answer r limit) ≡ true → next_answer (next_reading r limit) again ≡ next_answer r limit
+final_again r limit again final =
+    let idle = final_idle r limit (asks_now r (unit_in r limit)) refl final in
+    ap (λ (q : Reading). next_answer q again) (next_left r limit false idle (final_found (next_answer r limit) final))
+    ∙ ap (unit_answer r) (unit_again r limit again)

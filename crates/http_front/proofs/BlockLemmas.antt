@@ -198,6 +198,39 @@ blank_dropped [] = refl
 blank_dropped (x ∷ []) = passed_step (x ∷ []) _ _ refl refl refl refl
 blank_dropped (x ∷ y ∷ ys) = passed_step (x ∷ y ∷ ys) _ _ refl refl (blank_dropped (y ∷ ys)) (blank_dropped ys)
 
+-- the empty lines at the front stand there before whatever follows
+abbrev ArePassed : List ℕ → Type 0
+ArePassed xs = (more : List ℕ)
+    → blank_in (lines_in (take (blank_in (lines_in xs)) xs ++ more)) ≡ blank_in (lines_in xs) + blank_in (lines_in more)
+
+taken_step : (xs : List ℕ) (t u : Bool) → starts_with nat_eq xs (10 ∷ []) ≡ t → starts_with nat_eq xs (13 ∷ 10 ∷ []) ≡ u
+    → ArePassed (drop 1 xs) → ArePassed (drop 2 xs) → ArePassed xs
+taken_step [] true u feed return one two more = cc
+taken_step (x ∷ xs) true u feed return one two more =
+    let n = blank_in (lines_in xs) in
+    let same : 10 ≡ x = eqb-true 10 x (and_parts (10 == x) true feed).0 in
+    let all : blank_in (lines_in (x ∷ xs)) ≡ suc n = blank_feed_yes (x ∷ xs) feed ∙ omega arith in
+    let rest : blank_in (lines_in (take n xs ++ more)) ≡ n + blank_in (lines_in more) = one more in
+    rw (all, ← same) (blank_feed (take n xs ++ more) ∙ omega (arith, rest))
+taken_step [] false true feed return one two more = cc
+taken_step (x ∷ []) false true feed return one two more = let both = and_parts (13 == x) false return in absurd (false≢true both.1)
+taken_step (x ∷ y ∷ xs) false true feed return one two more =
+    let n = blank_in (lines_in xs) in
+    let both = and_parts (13 == x) _ return in
+    let first : 13 ≡ x = eqb-true 13 x both.0 in
+    let second : 10 ≡ y = eqb-true 10 y (and_parts (10 == y) true both.1).0 in
+    let all : blank_in (lines_in (x ∷ y ∷ xs)) ≡ suc (suc n) = blank_return_yes (x ∷ y ∷ xs) return ∙ omega arith in
+    let rest : blank_in (lines_in (take n xs ++ more)) ≡ n + blank_in (lines_in more) = two more in
+    rw (all, ← first, ← second) (blank_return (take n xs ++ more) ∙ omega (arith, rest))
+taken_step xs false false feed return one two more =
+    let none = blank_neither xs feed return in
+    rw none (omega arith)
+
+pub blank_passed : (xs : List ℕ) → ArePassed xs
+blank_passed [] = λ more. omega arith
+blank_passed (x ∷ []) = taken_step (x ∷ []) _ _ refl refl (λ more. omega arith) (λ more. omega arith)
+blank_passed (x ∷ y ∷ ys) = taken_step (x ∷ y ∷ ys) _ _ refl refl (blank_passed (y ∷ ys)) (blank_passed ys)
+
 -- ---- a block lies in its bytes
 
 abbrev total : List (List ℕ) → ℕ

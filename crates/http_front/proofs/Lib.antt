@@ -1,4 +1,5 @@
 pub mod AnswerLemmas
+mod BlankLemmas
 mod BlockLemmas
 mod ChunkLemmas
 mod ChunkLineLemmas
@@ -12,11 +13,13 @@ mod FoundLemmas
 mod FrontLemmas
 mod FrontStays
 mod HeadLemmas
+pub mod KeptLemmas
 mod Numbers
 mod ProgressLemmas
 mod ReaderLemmas
 mod RequestLemmas
 pub mod SessionLemmas
 mod SearchLemmas
+mod StandsLemmas
 mod StayLemmas
 mod UnitLemmas

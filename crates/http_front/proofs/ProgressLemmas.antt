@@ -19,11 +19,14 @@ use Rattle.http_front.specs.Checks.{has_too_many_lines, lacks_host, is_ambiguous
 use Rattle.http_front.specs.Chunks.{first_chunk, content_behind, chunk_len, chunked_content}
 use Rattle.http_front.specs.Content.{sized_content, content_of, is_continue_due}
 use Rattle.http_front.specs.NextUnit.{content_found, checked_unit, block_unit, front_unit, next_unit}
-use Rattle.http_front.specs.Reading.{Reading, limit_or, kept_limit, unit_in}
-use Rattle.http_front.specs.Progress.{content_by, framing_of, waiting, Waits, start, Tells, TellsBehind, Knows, IsWithin, Moves, Unchanged}
+use Rattle.unit_types.specs.declared.message.Addr.{Addr}
+use Rattle.http_front.specs.Reading.{limit_or, kept_limit}
+use Rattle.http_front.specs.Kept.{Kept, begun_at, unit_of, Unchanged}
+use Rattle.http_front.specs.Progress.{content_by, framing_of, waiting, Waits, start, Tells, TellsBehind, Knows, IsWithin, Moves}
 use Rattle.http_front.proofs.ChunkLemmas.{steps_enough, chunks_step, chunk_fits_as}
 use Rattle.http_front.proofs.ContentStays.{chunk_stays}
 use Rattle.http_front.proofs.FrontStays.{front_fits}
+use Rattle.http_front.proofs.KeptLemmas.{head_kept}
 use Rattle.http_front.proofs.StayLemmas.{rest_of, blank_within_len, blank_stays, rest_stays, begun_stays}
 use Rattle.http_front.proofs.SearchLemmas.{search_start, search_more, search_waits}
 
@@ -171,30 +174,33 @@ knows_more (At.Content at framing) bytes more kept is_told knows = record {
 }
 
 -- a unit that waits leaves the reader
-unchanged : (r : Reading) (limit : ℕ) (due : Bool) → unit_in r limit ≡ waiting due → (due && not r.is_told) ≡ false
-    → kept_limit (head_begun r.unread) r.limit limit ≡ r.limit → Unchanged r limit
-unchanged r limit due is idle kept = rw (is, idle, kept) (refl, refl)
+unchanged : (k : Kept) (limit : ℕ) (due : Bool) → unit_of k limit ≡ waiting due → (due && not k.is_told) ≡ false
+    → kept_limit (begun_at k.stage k.bytes) k.limit limit ≡ k.limit → Unchanged k limit
+unchanged k limit due is idle kept = rw (is, idle, kept) (refl, refl)
 
 -- the bytes tell nothing new
-pub knows_over : (p q : Progress) (r : Reading) → Knows p r.unread r.limit r.is_told → Moves p q r.unread → r.ended ≡ false
-    → ((limit : ℕ) → Unchanged r limit) × Knows q r.unread r.limit r.is_told
-knows_over (At.Head s) (At.Head t) r knows moves going =
-    let waits = search_waits t r.unread moves.0 moves.1 moves.2 in (
-      λ limit. unchanged r limit false (ap (λ e. next_unit r.unread e (limit_or r.limit limit)) going ∙ waits.1 (limit_or r.limit limit)) refl
-          (ap (λ t. kept_limit t r.limit limit) waits.0),
+pub knows_over : (p q : Progress) (from to : Addr) (bytes : List ℕ) (ended : Bool) (kept : Option ℕ) (is_told : Bool)
+    → Knows p bytes kept is_told → Moves p q bytes → ended ≡ false
+    → ((limit : ℕ) → Unchanged (head_kept from to bytes ended kept is_told) limit) × Knows q bytes kept is_told
+knows_over (At.Head s) (At.Head t) from to bytes ended kept is_told knows moves going =
+    let waits = search_waits t bytes moves.0 moves.1 moves.2 in
+    let k = head_kept from to bytes ended kept is_told in (
+      λ limit. unchanged k limit false (ap (λ e. next_unit bytes e (limit_or kept limit)) going ∙ waits.1 (limit_or kept limit)) refl
+          (ap (λ t. kept_limit t kept limit) waits.0),
       moves.0,
     )
-knows_over (At.Head s) (At.Content at framing) r knows moves going = absurd moves
-knows_over (At.Content at framing) (At.Head t) r knows moves going = absurd moves
-knows_over (At.Content at framing) (At.Content then_at then_framing) r knows moves going =
+knows_over (At.Head s) (At.Content at framing) from to bytes ended kept is_told knows moves going = absurd moves
+knows_over (At.Content at framing) (At.Head t) from to bytes ended kept is_told knows moves going = absurd moves
+knows_over (At.Content at framing) (At.Content then_at then_framing) from to bytes ended kept is_told knows moves going =
     let waits = knows.waits in
-    let whole : r.unread ++ [] ≡ r.unread = append-nil r.unread in
-    let unit : next_unit r.unread false knows.limit ≡ waiting knows.due =
+    let k = head_kept from to bytes ended kept is_told in
+    let whole : bytes ++ [] ≡ bytes = append-nil bytes in
+    let unit : next_unit bytes false knows.limit ≡ waiting knows.due =
     subst (λ (ys : List ℕ). content_by framing (drop at ys) ≡ Content.Open → next_unit ys false knows.limit ≡ waiting knows.due) whole (waits.waits []) moves.is_open in (
       λ limit.
-          let counts : limit_or r.limit limit ≡ knows.limit = ap (λ k. limit_or k limit) knows.is_kept in
-          unchanged r limit knows.due ((λ i. next_unit r.unread (going i) (counts i)) ∙ unit) knows.is_idle
-          ((λ i. kept_limit (waits.complete i) r.limit limit) ∙ ap Some counts ∙ sym knows.is_kept),
+          let counts : limit_or kept limit ≡ knows.limit = ap (λ o. limit_or o limit) knows.is_kept in
+          unchanged k limit knows.due ((λ i. next_unit bytes (going i) (counts i)) ∙ unit) knows.is_idle
+          ((λ i. kept_limit (waits.complete i) kept limit) ∙ ap Some counts ∙ sym knows.is_kept),
       record {
         limit = knows.limit;
         due = knows.due;

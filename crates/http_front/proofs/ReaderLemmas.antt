@@ -14,7 +14,9 @@ use Rattle.http_front.specs.Content.{content_of}
 use Rattle.http_front.specs.NextUnit.{Found, request, bad, cut, finished, wait, open_found, content_found, unready_found, end_found, checked_unit, block_unit, front_unit, next_unit}
 use Rattle.unit_types.specs.declared.message.Addr.{Addr}
 use Rattle.http_front.specs.declared.front.Told.{Told}
-use Rattle.http_front.specs.Reading.{Reading, reading_of, unit_in, answer_at, is_request, used_by, told_of, asks_now, kept_limit, behind_found, next_reading}
+use Rattle.http_front.specs.Reading.{answer_at, is_request, used_by, kept_limit}
+use Rattle.http_front.specs.Kept.{Kept, begun_at, unit_of, asks_of, kept_behind, limited, kept_next, told_in}
+use Rattle.http_front.proofs.KeptLemmas.{head_kept}
 use Rattle.http_front.proofs.BlockLemmas.{blank_within}
 use Rattle.http_front.proofs.FrontStays.{front_some, front_fits}
 use Rattle.http_front.proofs.ContentStays.{IsErrorStatus, FitsContent, content_fits}
@@ -111,51 +113,44 @@ error_status bytes ended limit status is = subst (λ (f : Found). FitsFound (len
 
 -- ---- a reader's step
 
-abbrev pub reading_at : Addr → Addr → List ℕ → ℕ → Bool → Option ℕ → Bool → Reading
-reading_at from to items used ended limit is_told = record { from = from; to = to; unread = drop used items; ended = ended; limit = limit; is_told = is_told }
-
--- what a step tells of a reading
-abbrev pub IsToldOf : Reading → ℕ → Told → Type 0
-IsToldOf r limit told = told ≡ told_of r.from r.to (head_begun r.unread) (unit_in r limit)
-
-pub step_continue : (r : Reading) (limit : ℕ) (told : Told) → IsToldOf r limit told → (told.is_due && not r.is_told) ≡ true
-    → record r { limit = kept_limit told.is_begun r.limit limit; is_told = true } ≡ next_reading r limit
-step_continue r limit told is asks =
-    let begun : told.is_begun ≡ head_begun r.unread = ap (λ (t : Told). t.is_begun) is in
-    let due : asks_now r (unit_in r limit) ≡ true = ap (λ (t : Told). t.is_due && not r.is_told) (sym is) ∙ asks in
+pub step_continue : (k : Kept) (limit : ℕ) (told : Told) → told ≡ told_in k limit → (told.is_due && not k.is_told) ≡ true
+    → record k { limit = kept_limit told.is_begun k.limit limit; is_told = true } ≡ kept_next k limit
+step_continue k limit told is asks =
+    let begun : told.is_begun ≡ begun_at k.stage k.bytes = ap (λ (t : Told). t.is_begun) is in
+    let due : asks_of k limit ≡ true = ap (λ (t : Told). t.is_due && not k.is_told) (sym is) ∙ asks in
     rw (begun, due) refl
 
-not_asks : (r : Reading) (limit : ℕ) (told : Told) → IsToldOf r limit told → (told.is_due && not r.is_told) ≡ false → asks_now r (unit_in r limit) ≡ false
-not_asks r limit told is asks = ap (λ (t : Told). t.is_due && not r.is_told) (sym is) ∙ asks
+not_asks : (k : Kept) (limit : ℕ) (told : Told) → told ≡ told_in k limit → (told.is_due && not k.is_told) ≡ false → asks_of k limit ≡ false
+not_asks k limit told is asks = ap (λ (t : Told). t.is_due && not k.is_told) (sym is) ∙ asks
 
 pub step_request : (from to : Addr) (items : List ℕ) (used : ℕ) (ended : Bool) (kept : Option ℕ) (is_told : Bool) (limit : ℕ) (told : Told)
-    → IsToldOf (reading_at from to items used ended kept is_told) limit told → (told.is_due && not is_told) ≡ false → is_request told.answer ≡ true
-    → reading_at from to items (used + told.used) ended None false ≡ next_reading (reading_at from to items used ended kept is_told) limit
+    → told ≡ told_in (head_kept from to (drop used items) ended kept is_told) limit → (told.is_due && not is_told) ≡ false → is_request told.answer ≡ true
+    → head_kept from to (drop (used + told.used) items) ended None false ≡ kept_next (head_kept from to (drop used items) ended kept is_told) limit
 step_request from to items used ended kept is_told limit told is asks serves =
-    let r = reading_at from to items used ended kept is_told in
-    let idle : asks_now r (unit_in r limit) ≡ false = not_asks r limit told is asks in
-    let uses : told.used ≡ used_by (unit_in r limit).found = ap (λ (t : Told). t.used) is in
-    let served : is_request (answer_at from to (unit_in r limit).found) ≡ true = ap (λ (t : Told). is_request t.answer) (sym is) ∙ serves in
-    rw (idle, uses) (by_found (unit_in r limit).found served)
+    let k = head_kept from to (drop used items) ended kept is_told in
+    let idle : asks_of k limit ≡ false = not_asks k limit told is asks in
+    let uses : told.used ≡ used_by (unit_of k limit).found = ap (λ (t : Told). t.used) is in
+    let served : is_request (answer_at from to (unit_of k limit).found) ≡ true = ap (λ (t : Told). is_request t.answer) (sym is) ∙ serves in
+    rw (idle, uses) (by_found (unit_of k limit).found served)
   where
     by_found : (g : Found) → is_request (answer_at from to g) ≡ true
-        → reading_at from to items (used + used_by g) ended None false
-        ≡ behind_found (reading_at from to items used ended (kept_limit (head_begun (drop used items)) kept limit) is_told) g
-    by_found (request m n) asks = ap (λ bytes. reading_of from to bytes ended) (sym (drop-drop n used items))
+        → head_kept from to (drop (used + used_by g) items) ended None false
+        ≡ kept_behind (limited (head_kept from to (drop used items) ended kept is_told) limit) g
+    by_found (request m n) asks = ap (λ bytes. head_kept from to bytes ended None false) (sym (drop-drop n used items))
     by_found (bad status) asks = cc
     by_found cut asks = cc
     by_found finished asks = cc
     by_found wait asks = cc
 
-pub step_other : (r : Reading) (limit : ℕ) (told : Told) → IsToldOf r limit told → (told.is_due && not r.is_told) ≡ false → is_request told.answer ≡ false
-    → record r { limit = kept_limit told.is_begun r.limit limit } ≡ next_reading r limit
-step_other r limit told is asks serves =
-    let idle : asks_now r (unit_in r limit) ≡ false = not_asks r limit told is asks in
-    let begun : told.is_begun ≡ head_begun r.unread = ap (λ (t : Told). t.is_begun) is in
-    let none : is_request (answer_at r.from r.to (unit_in r limit).found) ≡ false = ap (λ (t : Told). is_request t.answer) (sym is) ∙ serves in
-    rw (idle, begun) (by_found (record r { limit = kept_limit (head_begun r.unread) r.limit limit }) (unit_in r limit).found none)
+pub step_other : (k : Kept) (limit : ℕ) (told : Told) → told ≡ told_in k limit → (told.is_due && not k.is_told) ≡ false → is_request told.answer ≡ false
+    → record k { limit = kept_limit told.is_begun k.limit limit } ≡ kept_next k limit
+step_other k limit told is asks serves =
+    let idle : asks_of k limit ≡ false = not_asks k limit told is asks in
+    let begun : told.is_begun ≡ begun_at k.stage k.bytes = ap (λ (t : Told). t.is_begun) is in
+    let none : is_request (answer_at k.from k.to (unit_of k limit).found) ≡ false = ap (λ (t : Told). is_request t.answer) (sym is) ∙ serves in
+    rw (idle, begun) (by_found (limited k limit) (unit_of k limit).found none)
   where
-    by_found : (q : Reading) (g : Found) → is_request (answer_at q.from q.to g) ≡ false → q ≡ behind_found q g
+    by_found : (q : Kept) (g : Found) → is_request (answer_at q.from q.to g) ≡ false → q ≡ kept_behind q g
     by_found q (request m n) other = cc
     by_found q (bad status) other = refl
     by_found q cut other = refl

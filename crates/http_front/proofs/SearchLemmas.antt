@@ -1,5 +1,5 @@
 -- The search for the end of a head, and what it means for the unit.
-use Rattle.std.proofs.Common.{ℕ, ◌≡◌, ◌≢◌, ◌+◌, ◌-◌, ◌<◌, ◌≤◌, zero, suc, refl, sym, ap, ◌∙◌, List, [], ◌∷◌, ◌++◌, length, take, drop, Bool, true, false, nat_lt, Option, Some, None, arith, append_assoc, append-nil, length-append, take-append-drop}
+use Rattle.std.proofs.Common.{ℕ, ◌≡◌, ◌≢◌, ◌+◌, ◌-◌, ◌<◌, ◌≤◌, zero, suc, refl, sym, ap, ◌∙◌, List, [], ◌∷◌, ◌++◌, length, take, drop, Bool, true, false, nat_lt, Option, Some, None, arith, append_assoc, append-nil, length-append, length-take-le, take-append-drop}
 use lib.Seq.{drop-append_seam, take-append_seam}
 use Rattle.std.specs.Prelude.{slice_index}
 use Rattle.std.specs.Option.{option_map}
@@ -13,7 +13,7 @@ use Rattle.http_front.specs.Front.{unready, is_empty_line, blank_step, blank_in,
 use Rattle.http_front.specs.NextUnit.{front_unit, next_unit}
 use Rattle.http_front.specs.Progress.{IsSearched, waiting}
 use Rattle.http_front.proofs.Cuts.{Lacks, lacks_append, lines_at, lines_none, place_some, place_inside, place_none}
-use Rattle.http_front.proofs.BlockLemmas.{lines_more, map_twice}
+use Rattle.http_front.proofs.BlockLemmas.{lines_more, map_twice, blank_passed, blank_within}
 use Rattle.http_front.proofs.FrontStays.{block_more}
 use Rattle.http_front.proofs.FoundLemmas.{found_short}
 
@@ -166,6 +166,39 @@ search_blank s bytes len is line empty first =
           let front = ap (λ ys. blank_in (lines_in ys)) (feed more) in
           let before = is.drops (line.text ++ 10 ∷ more) in
           omega (arith, step, front, before, size);
+      starts = λ some more. absurd (some refl);
+      passes = λ more. map_nothing (block_in (lines_in more));
+      lacks = tt;
+    }
+
+-- all empty lines that stand where the next one would
+pub search_blanks : (s : Search) (bytes : List ℕ) → IsSearched s bytes → s.line ≡ s.blank → blank_len (drop s.line bytes) ≢ 0
+    → let end = s.line + blank_len (drop s.line bytes) in IsSearched (record { blank = end; line = end; searched = end }) bytes
+unfolding blank_len block_len
+search_blanks s bytes is first some =
+    let none : is.lines ≡ [] = empty_is is.lines (omega (arith, first, is.line_at, is.blank_at)) in
+    let ahead = drop s.line bytes in
+    let behind : ahead ≡ is.begun ++ is.rest =
+    (λ i. drop ((first ∙ is.blank_at) i) (is.whole i)) ∙ drop-append_seam is.blank (is.lines ++ (is.begun ++ is.rest)) ∙ ap (λ ls. ls ++ (is.begun ++ is.rest)) none in
+    let n = blank_in (lines_in ahead) in
+    let passed = take n ahead in
+    let size : length (is.blank ++ passed) ≡ length is.blank + n = length-append is.blank passed ∙ ap (λ k. length is.blank + k) (length-take-le n ahead (blank_within ahead)) in
+    let end : s.line + n ≡ length (is.blank ++ passed) = omega (arith, size, first, is.blank_at) in
+    record {
+      blank = is.blank ++ passed;
+      lines = [];
+      begun = [];
+      rest = drop n ahead;
+      whole = is.whole ∙ ap (λ ls. is.blank ++ (ls ++ (is.begun ++ is.rest))) none ∙ ap (λ ys. is.blank ++ ys) (sym behind ∙ sym (take-append-drop n ahead))
+          ∙ sym (append_assoc is.blank passed (drop n ahead));
+      blank_at = end;
+      line_at = omega (arith, end);
+      searched_at = omega (arith, end);
+      drops = λ more.
+          let shape = ap (λ ys. blank_in (lines_in ys)) (append_assoc is.blank passed more) in
+          let before = is.drops (passed ++ more) in
+          let step = blank_passed ahead more in
+          omega (arith, shape, before, step, size);
       starts = λ some more. absurd (some refl);
       passes = λ more. map_nothing (block_in (lines_in more));
       lacks = tt;

@@ -83,3 +83,15 @@ finished_front limit blank bytes ended (block n) is =
 pub finished_idle : (bytes : List ℕ) (ended : Bool) (limit : ℕ) → (next_unit bytes ended limit).found ≡ finished → (next_unit bytes ended limit).continue_due ≡ false
 unfolding next_unit
 finished_idle bytes ended limit is = finished_front limit (blank_len bytes) (rest_of bytes) ended (front_of head_limit (rest_of bytes)) is
+
+-- ---- before the head is complete no limit counts
+
+alike_front : (limit other blank : ℕ) (bytes : List ℕ) (ended : Bool) (front : Front) → is_ready front ≡ false
+    → front_unit limit blank bytes ended front ≡ front_unit other blank bytes ended front
+alike_front limit other blank bytes ended unready is = refl
+alike_front limit other blank bytes ended too_long is = cc
+alike_front limit other blank bytes ended (block n) is = cc
+
+pub unbegun_alike : (bytes : List ℕ) (ended : Bool) (limit other : ℕ) → head_begun bytes ≡ false → next_unit bytes ended limit ≡ next_unit bytes ended other
+unfolding next_unit
+unbegun_alike bytes ended limit other is = alike_front limit other (blank_len bytes) (rest_of bytes) ended (front_of head_limit (rest_of bytes)) is

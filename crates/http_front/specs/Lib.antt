@@ -13,3 +13,5 @@ pub mod Written
 pub mod Session
 pub mod Reading
 pub mod Progress
+pub mod Stands
+pub mod Kept

@@ -10,14 +10,12 @@ use Rattle.http_front.specs.declared.progress.Progress.{Progress}
 use Rattle.http_front.specs.declared.progress.Progress.TheVariants as At
 use Rattle.http_front.specs.declared.content.Content.{Content}
 use Rattle.http_front.specs.declared.content.Content.TheVariants.{Open}
-use Rattle.http_front.specs.declared.reader.Next.TheVariants as Answer
 use Rattle.http_front.specs.Head.{is_line_feed}
 use Rattle.http_front.specs.Front.{blank_len, block_len, head_limit, head_begun}
 use Rattle.http_front.specs.Checks.{is_chunked, content_length}
 use Rattle.http_front.specs.Chunks.{chunked_content}
 use Rattle.http_front.specs.Content.{sized_content}
 use Rattle.http_front.specs.NextUnit.{NextUnit, wait, next_unit}
-use Rattle.http_front.specs.Reading.{Reading, next_answer, next_reading}
 
 -- ---- the search for the end of a head
 
@@ -110,9 +108,3 @@ ContentMoves at framing (At.Content then_at then_framing) bytes = ContentOver at
 abbrev pub Moves : Progress → Progress → List ℕ → Type 0
 Moves (At.Head s) p bytes = HeadOver p bytes
 Moves (At.Content at framing) p bytes = ContentMoves at framing p bytes
-
--- ---- what that means for the reader
-
--- more bytes are needed, and all stays
-abbrev pub Unchanged : Reading → ℕ → Type 0
-Unchanged r limit = (next_answer r limit ≡ Answer.NeedMore) × (next_reading r limit ≡ r)

@@ -1,5 +1,6 @@
 -- What a reader keeps, and what its next answer is.
 use Rattle.std.specs.Prelude.{ℕ, ◌+◌, Bool, true, false, not, ◌&&◌, List, drop, Option, Some, None, if◌then◌else◌}
+use Rattle.std.specs.Option.{is_some}
 use Rattle.unit_types.specs.declared.message.Addr.{Addr}
 use Rattle.unit_types.specs.declared.message.Request.{Request}
 use Rattle.http_front.specs.declared.content.Content.{Content}
@@ -28,6 +29,10 @@ abbrev pub reading_of : Addr → Addr → List ℕ → Bool → Reading
 reading_of from to unread ended =
     record { from = from; to = to; unread = unread; ended = ended; limit = None; is_told = false }
 
+-- the calls of `next` have found the head of the request at the front complete
+abbrev pub has_begun : Reading → Bool
+has_begun r = is_some r.limit
+
 -- the limit that counts, given that of this call
 abbrev pub limit_or : Option ℕ → ℕ → ℕ
 limit_or (Some kept) limit = kept
@@ -51,6 +56,13 @@ answer_for r found = answer_at r.from r.to found
 abbrev pub is_request : Next → Bool
 is_request (Answer.Request r) = true
 is_request _ = false
+
+-- the answers behind which nothing more is read
+abbrev pub is_final : Next → Bool
+is_final (Answer.Bad status) = true
+is_final Answer.Cut = true
+is_final Answer.End = true
+is_final _ = false
 
 -- how many bytes it uses up
 abbrev pub used_by : Found → ℕ

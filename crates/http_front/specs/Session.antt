@@ -53,9 +53,10 @@ session_from c ended (suc left) bytes =
 abbrev pub request_limit : ℕ
 request_limit = 1000
 
--- the session of the bytes of a connection, given whether the input ended behind them
-abbrev pub session_of : Connection → Bool → List ℕ → Session
-session_of c ended bytes = session_from c ended request_limit bytes
+-- the session of the bytes of a connection that has one limit and one answer for all its requests, given whether the input
+-- ended behind them
+abbrev pub plain_session_of : Connection → Bool → List ℕ → Session
+plain_session_of c ended bytes = session_from c ended request_limit bytes
 
 -- the answer to a request by its reply
 abbrev pub reply_bytes : (Request → Reply) → Request → Bool → List ℕ
@@ -80,4 +81,4 @@ once_connection reply_of name = record {
 
 -- what one connection to one handler writes for an input that has ended
 abbrev pub once_of : (List ℕ → Request → Reply) → List ℕ → List ℕ → List ℕ
-once_of reply_of name bytes = (session_of (once_connection reply_of name) true bytes).written
+once_of reply_of name bytes = (plain_session_of (once_connection reply_of name) true bytes).written

@@ -109,9 +109,13 @@ head_text reply close =
     ++ (close_line close
     ++ crlf_text)))
 
--- the bytes of a reply: to a HEAD request without content, and with `Connection: close` where the connection closes
+-- the content that is written: none to a HEAD request, and none for a status that has none
+abbrev pub written_content : Reply → Bool → List ℕ
+written_content reply head = content_unless (head || has_no_content reply.status) reply.body
+
+-- the bytes of a reply, with `Connection: close` where the connection closes
 unfoldable pub http_bytes : Reply → Bool → Bool → List ℕ
-http_bytes reply head close = head_text reply close ++ content_unless (head || has_no_content reply.status) reply.body
+http_bytes reply head close = head_text reply close ++ written_content reply head
 
 -- an error reply: its status in words of plain text (RFC 9110, section 15.5)
 abbrev pub error_reply : ℕ → Reply

@@ -1,12 +1,13 @@
 //! What holds of every reading of a connection's bytes.
-ghost use Rattle.std.specs.Prelude.{◌≡◌, ◌≢◌, ◌<◌, ◌≤◌, ◌++◌, ◌↔◌, Bool, true, false, List, [], ℕ, length, Some, None, IsTrue};
+ghost use Rattle.std.specs.Prelude.{◌≡◌, ◌≢◌, ◌<◌, ◌≤◌, ◌++◌, ◌↔◌, ◌||◌, Bool, true, false, List, [], ℕ, length, Some, None, IsTrue};
 ghost use Rattle.httparse.specs.Grammar.{ChunkLine, ReadsChunkLine, chunk_size};
 ghost use Rattle.http_front.specs.ChunkLine.{chunk_size_of};
 ghost use Rattle.http_front.specs.declared.reader.Next.TheVariants as Answer;
-ghost use Rattle.http_front.specs.Front.{HeadBegun};
+ghost use Rattle.http_front.specs.Front.{HeadBegun, head_begun};
 ghost use Rattle.http_front.specs.Message.{Message};
 ghost use Rattle.http_front.specs.NextUnit.{next_unit, request, bad, finished, wait};
-ghost use Rattle.http_front.specs.Reading.{Reading, next_answer, next_reading};
+ghost use Rattle.http_front.specs.Reading.{Reading, has_begun, is_final, is_request, next_answer, next_reading};
+ghost use Rattle.http_front.specs.Session.{Connection, plain_session_of};
 
 /// What is found at the front of the bytes stays however the input goes on, unless more bytes were needed to tell; behind
 /// a complete head so does whether `100 Continue` is due, which it isn't before. After the end of the input no more bytes
@@ -28,10 +29,26 @@ pub fn laws_of_units()
         → (400 ≤ status) × (status < 600) }
 {}
 
-/// What a reader answers: behind the end of the input it needs no more bytes, and `Continue` comes once for a request.
+/// What a reader answers. Behind the end of the input it needs no more bytes. `Continue` comes once for a request, whatever is
+/// fed between: it is told from then on until the request is answered, and where it is told it isn't the answer. After `Bad`,
+/// `End` and `Cut` the answer comes again. A request has begun once a call has found its head complete.
 pub fn laws_of_answers()
     ensures needs { (r : Reading) (limit : ℕ) → r.ended ≡ true → next_answer r limit ≢ Answer.NeedMore }
     ensures once { (r : Reading) (limit again : ℕ) → next_answer r limit ≡ Answer.Continue → next_answer (next_reading r limit) again ≢ Answer.Continue }
+    ensures tells { (r : Reading) (limit : ℕ) → next_answer r limit ≡ Answer.Continue → (next_reading r limit).is_told ≡ true }
+    ensures told { (r : Reading) (limit : ℕ) → r.is_told ≡ true → next_answer r limit ≢ Answer.Continue }
+    ensures stays { (r : Reading) (limit : ℕ) → r.is_told ≡ true → is_request (next_answer r limit) ≡ false
+        → (next_reading r limit).is_told ≡ true }
+    ensures again { (r : Reading) (limit again : ℕ) → is_final (next_answer r limit) ≡ true
+        → next_answer (next_reading r limit) again ≡ next_answer r limit }
+    ensures begun { (r : Reading) (limit : ℕ) → is_request (next_answer r limit) ≡ false
+        → has_begun (next_reading r limit) ≡ (head_begun r.unread || has_begun r) }
+{}
+
+/// The session of bytes that go on begins with the session of a front of them.
+pub fn laws_of_sessions()
+    ensures { (c : Connection) (ended : Bool) (bytes more : List ℕ) → (rest : List ℕ)
+        × ((plain_session_of c ended (bytes ++ more)).written ≡ (plain_session_of c false bytes).written ++ rest) }
 {}
 
 /// The law of `chunk_size_of`: a line says a size exactly where the grammar of `httparse` has it as a line of that size.

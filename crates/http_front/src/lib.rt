@@ -22,9 +22,10 @@ mod written;
 
 pub use closing::{is_head_request, is_last_request};
 pub use head::laws_of_heads;
-pub use laws::{laws_of_answers, laws_of_chunk_lines, laws_of_units};
+pub use laws::{laws_of_answers, laws_of_chunk_lines, laws_of_sessions, laws_of_units};
 pub use reader::{Next, Reader};
-pub use written::{continue_reply, error_reply, write_http};
+pub use target::raw_path_of;
+pub use written::{content_len, continue_reply, error_reply, write_http};
 
 #[cfg(test)]
 mod tests;

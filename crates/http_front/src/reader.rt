@@ -1,7 +1,7 @@
 //! The requests of a connection, read from its bytes in any pieces.
-ghost use Rattle.std.specs.Prelude.{◌≡◌, ◌++◌, ◌&&◌, not, [], true, false, ℕ, IfOk, OnOk, OnErr, IsTrue};
-ghost use Rattle.http_front.specs.Progress.{Unchanged};
-ghost use Rattle.http_front.specs.Reading.{Reading, reading_of, limit_or, kept_limit, is_request, next_answer, next_reading};
+ghost use Rattle.std.specs.Prelude.{◌≡◌, ◌&&◌, not, [], true, false, ℕ, IfOk, OnOk, OnErr, IsTrue};
+ghost use Rattle.http_front.specs.Kept.{HasRead, fed, at_end, kept_answer, kept_next, Unchanged};
+ghost use Rattle.http_front.specs.Reading.{Reading, reading_of, has_begun, limit_or, kept_limit, is_request, next_answer, next_reading};
 
 use crate::front::read_front;
 use crate::progress::{Progress, progress_over};
@@ -29,8 +29,9 @@ pub enum Next {
 
 /// Reads the requests of a connection from its bytes, in whatever pieces they come.
 ///
-/// Contracts see a `Reading`: the bytes that no request has used yet, whether the input ended behind them, and what is kept
-/// of the request at their front.
+/// A `Reading` is what it has read: the bytes that no request has used yet, whether the input ended behind them, and what
+/// holds of the request at their front. A reader lets bytes go whose meaning it keeps; `HasRead` relates the reading to what
+/// it keeps, and each contract holds for every reading.
 #[derive(Debug, Drop)]
 pub struct Reader {
     from: Addr,
@@ -47,12 +48,20 @@ pub struct Reader {
 
 impl Model for Reader {
     ghost use Rattle.std.specs.Prelude.{◌≤◌, length, drop};
-    ghost use Rattle.http_front.specs.Reading.{Reading};
+    ghost use Rattle.http_front.specs.Kept.{Kept, head};
     ghost use Rattle.http_front.specs.Progress.{Knows};
 
-    ghost Value = { Reading };
+    ghost Value = { Kept };
 
-    ghost view = { λ r. record { from = r.from; to = r.to; unread = drop r.used r.bytes.items; ended = r.ended; limit = r.limit; is_told = r.is_told } };
+    ghost view = { λ r. record {
+      from = r.from;
+      to = r.to;
+      bytes = drop r.used r.bytes.items;
+      stage = head;
+      ended = r.ended;
+      limit = r.limit;
+      is_told = r.is_told;
+    } };
 
     ghost invariant = { λ r. (r.used ≤ length r.bytes.items) × Knows r.progress (drop r.used r.bytes.items) r.limit r.is_told };
 }
@@ -62,14 +71,16 @@ impl Reader {
     ///
     /// Fails for want of memory alone.
     pub fn open(alloc: Global, from: Addr, to: Addr) -> Result<Reader, AllocError>
-        ensures { IfOk result (λ r. r ≡ reading_of from to [] false) }
+        ensures read { IfOk result (λ reader. HasRead (reading_of from to [] false) reader) }
+        ensures ended { IfOk result (λ reader. reader.ended ≡ false) }
     {
         Ok(Reader::over(Bytes::of(Vec::new(alloc)), from, to))
     }
 
     /// A reader whose first bytes are `bytes`, which it doesn't copy.
     pub fn over(bytes: Bytes, from: Addr, to: Addr) -> Reader
-        ensures { result ≡ reading_of from to bytes false }
+        ensures read { HasRead (reading_of from to bytes false) result }
+        ensures ended { result.ended ≡ false }
     {
         Reader {
             from,
@@ -85,14 +96,27 @@ impl Reader {
 
     /// Takes the next bytes of the input.
     ///
-    /// Fails for want of memory alone; the reader is then as before.
+    /// Fails for want of memory alone; the reader has then read what it had before.
     pub fn feed(&mut self, alloc: Global, piece: &[u8]) -> Result<(), AllocError>
         requires { self.old.ended ≡ false }
-        ensures ok { OnOk result (self.new ≡ record self.old { unread = self.old.unread ++ piece.now }) }
-        ensures err { OnErr result (self.new ≡ self.old) }
+        ensures ok { OnOk result ((r : Reading) → HasRead r self.old → HasRead (fed r piece.now) self.new) }
+        ensures err { OnErr result ((r : Reading) → HasRead r self.old → HasRead r self.new) }
+        ensures ended { self.new.ended ≡ self.old.ended }
     {
+        self.drop_blank();
         self.forget_used(alloc)?;
         self.bytes.extend_from_slice(piece)
+    }
+
+    // lets the empty lines go that the search for the end of the head has passed
+    fn drop_blank(&mut self)
+        ensures read { (r : Reading) → HasRead r self.old → HasRead r self.new }
+        ensures ended { self.new.ended ≡ self.old.ended }
+    {
+        if let Progress::Head(search) = self.progress {
+            self.used += search.blank;
+            self.progress = Progress::Head(search.from_blank());
+        }
     }
 
     // lets the used bytes go once they are more than the others, so that each byte is moved at most once more
@@ -108,20 +132,44 @@ impl Reader {
 
     /// Says that the input ended behind the bytes so far.
     pub fn end(&mut self)
-        ensures { self.new ≡ record self.old { ended = true } }
+        ensures { (r : Reading) → HasRead r self.old → HasRead (at_end r) self.new }
     {
         self.ended = true;
+    }
+
+    /// How many bytes it keeps.
+    #[cfg(test)]
+    pub(crate) fn kept_len(&self) -> usize {
+        self.bytes.len()
+    }
+
+    /// Whether the head of the request at the front is complete, as far as the calls of `next` found it.
+    pub fn has_begun(&self) -> bool
+        ensures { (r : Reading) → HasRead r self.now → result ≡ has_begun r }
+    {
+        self.limit.is_some()
     }
 
     /// What stands at the front of the bytes that no request has used, given the largest content that is taken.
     ///
     /// `Continue` comes once for a request, where it is due. A request that is answered is used up. After `Bad`, `End` and
     /// `Cut` the answer comes again. The largest content is the one given to the call that finds the head complete; later
-    /// calls leave it. Fails for want of memory alone; the reader is then as before.
+    /// calls leave it. Fails for want of memory alone; the reader has then read what it had before.
     #[inline(always)]
     pub fn next(&mut self, alloc: Global, max_body: u64) -> Result<Next, AllocError>
-        ensures answer { IfOk result (λ answer. answer ≡ next_answer self.old max_body) }
-        ensures ok { OnOk result (self.new ≡ next_reading self.old max_body) }
+        ensures answer { IfOk result (λ answer. (r : Reading) → HasRead r self.old → answer ≡ next_answer r max_body) }
+        ensures ok { OnOk result ((r : Reading) → HasRead r self.old → HasRead (next_reading r max_body) self.new) }
+        ensures err { OnErr result ((r : Reading) → HasRead r self.old → HasRead r self.new) }
+        ensures ended { self.new.ended ≡ self.old.ended }
+    {
+        self.take_next(alloc, max_body)
+    }
+
+    // the same by what is kept
+    #[inline(always)]
+    fn take_next(&mut self, alloc: Global, max_body: u64) -> Result<Next, AllocError>
+        ensures answer { IfOk result (λ answer. answer ≡ kept_answer self.old max_body) }
+        ensures ok { OnOk result (self.new ≡ kept_next self.old max_body) }
         ensures err { OnErr result (self.new ≡ self.old) }
     {
         if self.still_waits() {
@@ -148,12 +196,12 @@ impl Reader {
         }
     }
 
-    // the same as `next`, by all bytes anew. It stands apart from `next`, which goes into its caller: a call that only waits
-    // then needs none of this room, and builds no answer.
+    // the same as `take_next`, by all bytes anew. It stands apart from `next`, which goes into its caller: a call that only
+    // waits then needs none of this room, and builds no answer.
     #[inline(never)]
     fn read(&mut self, alloc: Global, max_body: u64) -> Result<Next, AllocError>
-        ensures answer { IfOk result (λ answer. answer ≡ next_answer self.old max_body) }
-        ensures ok { OnOk result (self.new ≡ next_reading self.old max_body) }
+        ensures answer { IfOk result (λ answer. answer ≡ kept_answer self.old max_body) }
+        ensures ok { OnOk result (self.new ≡ kept_next self.old max_body) }
         ensures err { OnErr result (self.new ≡ self.old) }
     {
         let limit = limit_or(self.limit, max_body);
@@ -213,71 +261,5 @@ fn is_request(answer: &Next) -> bool
     match answer {
         Next::Request(_) => true,
         _ => false,
-    }
-}
-
-#[cfg(test)]
-mod tests {
-    use super::*;
-    use std::alloc::AllocGlobal;
-    use std::process::Abort;
-
-    const ONE_GET: &[u8] = b"GET / HTTP/1.1\r\nHost: a\r\n\r\n";
-
-    fn local(port: u16) -> Addr {
-        Addr {
-            ip: 0x7f00_0001,
-            port,
-        }
-    }
-
-    // what a reader says of the input at last
-    fn last_word(rt: &(impl Abort + AllocGlobal), input: &[u8]) -> Next {
-        let mut reader = Reader::open(rt.alloc(), local(40000), local(8080)).expect(rt, "opened");
-        reader.feed(rt.alloc(), input).expect(rt, "fed");
-        reader.end();
-        reader.next(rt.alloc(), 8_388_608).expect(rt, "read")
-    }
-
-    #[test]
-    fn reads_a_request_in_pieces(rt: HostRuntime) {
-        let mut reader = Reader::open(rt.alloc(), local(40000), local(8080)).expect(&rt, "opened");
-        reader.feed(rt.alloc(), &ONE_GET[..9]).expect(&rt, "fed");
-        assert!(rt;
-            matches!(
-                reader.next(rt.alloc(), 0).expect(&rt, "read"),
-                Next::NeedMore
-            )
-        );
-        reader.feed(rt.alloc(), &ONE_GET[9..]).expect(&rt, "fed");
-        match reader.next(rt.alloc(), 0).expect(&rt, "read") {
-            Next::Request(request) => {
-                assert!(rt; request.method.as_slice() == b"GET".as_slice());
-                assert!(rt; request.path.as_slice() == b"/".as_slice());
-                assert!(rt; request.host.as_slice() == b"a".as_slice());
-                assert!(rt; request.fields.as_slice().len() == 1);
-                assert!(rt; request.to.port == 8080);
-            }
-            _ => assert!(rt; false),
-        }
-        reader.end();
-        assert!(rt; matches!(reader.next(rt.alloc(), 0).expect(&rt, "read"), Next::End));
-    }
-
-    #[test]
-    fn tells_what_is_no_request(rt: HostRuntime) {
-        assert!(rt; matches!(last_word(&rt, b"\r\n\n"), Next::End));
-        assert!(rt; matches!(last_word(&rt, b"GET / HT"), Next::Cut));
-        assert!(rt; matches!(last_word(&rt, b"GET / HTTP/1.1\r\n\r\n"), Next::Bad(400)));
-        assert!(rt;
-            matches!(
-                last_word(
-                    &rt,
-                    b"POST / HTTP/1.1\r\nHost: a\r\nTransfer-Encoding: gzip\r\n\r\n"
-                ),
-                Next::Bad(501)
-            )
-        );
-        assert!(rt; matches!(last_word(&rt, &[b'a'; 16384]), Next::Bad(431)));
     }
 }

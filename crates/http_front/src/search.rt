@@ -1,10 +1,10 @@
 //! The search for the end of a head, in bytes that come in pieces (RFC 9112, sections 2.1 and 2.2).
-ghost use Rattle.std.specs.Prelude.{◌≡◌, ◌+◌, length, drop, Some, IfSome};
+ghost use Rattle.std.specs.Prelude.{◌≡◌, ◌+◌, ◌-◌, ◌≤◌, length, drop, Some, IfSome};
 ghost use Rattle.std.specs.List.{position};
 ghost use Rattle.http_front.specs.Head.{is_line_feed};
 ghost use Rattle.http_front.specs.Progress.{IsSearched};
 
-use crate::block::{feed_place, is_empty_line};
+use crate::block::{blank_len, feed_place, is_empty_line};
 use crate::text::behind;
 
 /// How far the search for the end of the head at the front of some bytes has come.
@@ -25,6 +25,18 @@ impl Search {
         line: 0,
         searched: 0,
     };
+
+    /// The same behind the empty lines that it has passed.
+    pub(crate) fn from_blank(self) -> Search
+        requires { (self.blank ≤ self.line) × (self.blank ≤ self.searched) }
+        ensures { result ≡ record { blank = 0; line = self.line - self.blank; searched = self.searched - self.blank } }
+    {
+        Search {
+            blank: 0,
+            line: self.line - self.blank,
+            searched: self.searched - self.blank,
+        }
+    }
 }
 
 /// The search once it has gone through all bytes. `None` where a whole block ends in them.
@@ -33,12 +45,32 @@ pub(crate) fn search_on(search: Search, bytes: &[u8]) -> Option<Search>
     ensures is { IfSome result (λ s. IsSearched s bytes.now) }
     ensures all { IfSome result (λ s. s.searched ≡ length bytes.now) }
 {
-    let mut search = search;
+    let mut search = pass_blank(search, bytes);
     while let Some(len) = feed_place(behind(bytes, search.searched)) {
         search = behind_line(search, len, bytes)?;
     }
     search.searched = bytes.len();
     Some(search)
+}
+
+// the search behind the empty lines that come next: a loop over their bytes, however many there are
+fn pass_blank(search: Search, bytes: &[u8]) -> Search
+    requires { IsSearched search bytes.now }
+    ensures { IsSearched result bytes.now }
+{
+    if search.line != search.blank {
+        return search;
+    }
+    let len = blank_len(behind(bytes, search.line));
+    if len == 0 {
+        return search;
+    }
+    let end = search.line + len;
+    Search {
+        blank: end,
+        line: end,
+        searched: end,
+    }
 }
 
 // the search behind the line whose LF stands `len` bytes further

@@ -91,8 +91,8 @@ pub(crate) fn authority_of(target: &[u8]) -> &[u8]
     before_end(behind(target, 7))
 }
 
-/// The path of a target as it came.
-pub(crate) fn raw_path_of(target: &[u8]) -> &[u8]
+/// The path of a target as it came, behind scheme and authority and without query and fragment.
+pub fn raw_path_of(target: &[u8]) -> &[u8]
     ensures { result.now ≡ spec.raw_path_of target.now }
 {
     before_question(resource_of(target))

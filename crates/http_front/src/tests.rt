@@ -1,23 +1,182 @@
-//! Inputs with what a reader says of them, whole, byte by byte, and with trailing bytes.
-ghost use Rattle.std.specs.Prelude.{◌≡◌, ◌<◌};
+//! Inputs with what a reader says of them: whole, in halves and byte by byte, alone and with a request behind them.
+ghost use Rattle.std.specs.Prelude.{◌≡◌, ◌<◌, false};
 
 use crate::{Next, Reader};
 use std::alloc::AllocError;
-use unit_types::{Addr, Bytes};
+use unit_types::{Addr, Bytes, Request};
+
+/// The name of a row, its input, and what a reader says of it.
+type Row = (&'static str, &'static [u8], &'static [u8]);
 
 fn good() -> &'static [u8] {
     b"GET / HTTP/1.1\r\nHost: a\r\n\r\n"
 }
 
 fn good_answer() -> &'static [u8] {
-    b"GET / ? a \n"
+    b"GET / ? a {host:a} \n"
 }
 
-fn local(port: u16) -> Addr {
+fn client() -> Addr {
     Addr {
         ip: 0x7f00_0001,
-        port,
+        port: 40000,
     }
+}
+
+fn server() -> Addr {
+    Addr {
+        ip: 0x7f00_0001,
+        port: 8080,
+    }
+}
+
+// heads that are refused
+fn faulty_heads() -> [Row; 9] {
+    [
+        (
+            "two hosts",
+            b"GET / HTTP/1.1\r\nHost: a\r\nHost: b\r\n\r\n",
+            b"400\n",
+        ),
+        ("no host", b"GET / HTTP/1.1\r\n\r\n", b"400\n"),
+        (
+            "length beside coding",
+            b"POST / HTTP/1.1\r\nHost: a\r\nContent-Length: 5\r\nTransfer-Encoding: chunked\r\n\r\n",
+            b"400\n",
+        ),
+        (
+            "another coding",
+            b"POST / HTTP/1.1\r\nHost: a\r\nTransfer-Encoding: gzip\r\n\r\n",
+            b"501\n",
+        ),
+        (
+            "a list of codings",
+            b"POST / HTTP/1.1\r\nHost: a\r\nTransfer-Encoding: gzip, chunked\r\n\r\n",
+            b"501\n",
+        ),
+        (
+            "a signed length",
+            b"POST / HTTP/1.1\r\nHost: a\r\nContent-Length: +5\r\n\r\n",
+            b"400\n",
+        ),
+        (
+            "chunks in 1.0",
+            b"POST / HTTP/1.0\r\nTransfer-Encoding: chunked\r\n\r\n",
+            b"400\n",
+        ),
+        (
+            "a length above the limit",
+            b"POST / HTTP/1.1\r\nHost: a\r\nContent-Length: 101\r\n\r\n",
+            b"413\n",
+        ),
+        (
+            "a folded line",
+            b"GET / HTTP/1.1\r\nHost: a\r\n b\r\n\r\n",
+            b"400\n",
+        ),
+    ]
+}
+
+// targets that are refused
+fn faulty_targets() -> [Row; 3] {
+    [
+        (
+            "a broken escape",
+            b"GET /%zz HTTP/1.1\r\nHost: a\r\n\r\n",
+            b"400\n",
+        ),
+        (
+            "a hidden NUL",
+            b"GET /%00 HTTP/1.1\r\nHost: a\r\n\r\n",
+            b"400\n",
+        ),
+        (
+            "asterisk-form",
+            b"OPTIONS * HTTP/1.1\r\nHost: a\r\n\r\n",
+            b"400\n",
+        ),
+    ]
+}
+
+// chunks that are refused
+fn faulty_chunks() -> [Row; 3] {
+    [
+        (
+            "no size",
+            b"POST / HTTP/1.1\r\nHost: a\r\nTransfer-Encoding: chunked\r\n\r\ng\r\n",
+            b"400\n",
+        ),
+        (
+            "a size above the limit",
+            b"POST / HTTP/1.1\r\nHost: a\r\nTransfer-Encoding: chunked\r\n\r\n65\r\n",
+            b"413\n",
+        ),
+        (
+            "an LF behind the data",
+            b"POST / HTTP/1.1\r\nHost: a\r\nTransfer-Encoding: chunked\r\n\r\n1\r\nx\n0\r\n\r\n",
+            b"400\n",
+        ),
+    ]
+}
+
+// requests that are read
+fn requests() -> [Row; 6] {
+    [
+        (
+            "a length",
+            b"POST /x HTTP/1.1\r\nHost: a\r\nContent-Length: 5\r\n\r\nhello",
+            b"POST /x ? a {host:a}{content-length:5} hello\n",
+        ),
+        (
+            "an empty content",
+            b"POST /x HTTP/1.1\r\nHost: a\r\nContent-Length: 0\r\n\r\n",
+            b"POST /x ? a {host:a}{content-length:0} \n",
+        ),
+        (
+            "chunks",
+            b"POST / HTTP/1.1\r\nHost: a\r\nTransfer-Encoding: Chunked\r\n\r\n5;x=y\r\nhello\r\n1 \r\n!\r\n0\r\nX: y\r\n\r\n",
+            b"POST / ? a {host:a}{transfer-encoding:Chunked} hello!\n",
+        ),
+        (
+            "an expectation",
+            b"POST / HTTP/1.1\r\nHost: a\r\nExpect: 100-Continue\r\nContent-Length: 2\r\n\r\nok",
+            b"continue\nPOST / ? a {host:a}{expect:100-Continue}{content-length:2} ok\n",
+        ),
+        (
+            "a path with dots",
+            b"\r\nGET /a//b/%2e%2e/c?d=/../e#f HTTP/1.1\r\nHost: A.:80\r\n\r\n",
+            b"GET /a/c ?d=/../e a {host:A.:80} \n",
+        ),
+        (
+            "absolute-form",
+            b"GET HTTP://Example.com:8080?q HTTP/1.1\r\nHost: \t b \r\n\r\n",
+            b"GET / ?q example.com {host:b} \n",
+        ),
+    ]
+}
+
+// a request on one line but for its LF
+fn put_request(out: &mut Bytes, request: &Request) -> Result<(), AllocError> {
+    out.append(request.method.as_slice())?;
+    out.append(b" ")?;
+    out.append(request.path.as_slice())?;
+    out.append(b" ?")?;
+    out.append(request.query.as_slice())?;
+    out.append(b" ")?;
+    out.append(request.host.as_slice())?;
+    out.append(b" ")?;
+    for field in request.fields.as_slice() {
+        out.append(b"{")?;
+        out.append(field.name.as_slice())?;
+        out.append(b":")?;
+        out.append(field.value.as_slice())?;
+        out.append(b"}")?;
+    }
+    if request.from != client() || request.to != server() {
+        out.append(b" elsewhere")?;
+    }
+    out.append(b" ")?;
+    out.append(request.body.as_slice())
 }
 
 // one line for each answer
@@ -25,15 +184,7 @@ fn put_answer(out: &mut Bytes, answer: &Next) -> Result<(), AllocError> {
     match answer {
         Next::Continue => out.append(b"continue\n"),
         Next::Request(request) => {
-            out.append(request.method.as_slice())?;
-            out.append(b" ")?;
-            out.append(request.path.as_slice())?;
-            out.append(b" ?")?;
-            out.append(request.query.as_slice())?;
-            out.append(b" ")?;
-            out.append(request.host.as_slice())?;
-            out.append(b" ")?;
-            out.append(request.body.as_slice())?;
+            put_request(out, request)?;
             out.append(b"\n")
         }
         Next::NeedMore => Ok(()),
@@ -67,7 +218,7 @@ fn put_answers(rt: &HostRuntime, reader: &mut Reader, out: &mut Bytes) -> Result
 fn told(rt: &HostRuntime, input: &[u8], size: usize) -> Result<Bytes, AllocError>
     requires { 0 < size }
 {
-    let mut reader = Reader::open(rt.alloc(), local(40000), local(8080))?;
+    let mut reader = Reader::open(rt.alloc(), client(), server())?;
     let mut out = Bytes::copy_of(rt.alloc(), b"")?;
     for piece in input.chunks(size) {
         reader.feed(rt.alloc(), piece)?;
@@ -92,9 +243,14 @@ fn is_told(rt: &HostRuntime, input: &[u8], size: usize, wanted: &[u8]) -> Result
     Ok(told(rt, input, size)?.as_slice() == wanted)
 }
 
-// whether the input is told so whole and byte by byte
+// whether the input is told so whole, in halves and byte by byte
 fn is_told_so(rt: &HostRuntime, input: &[u8], wanted: &[u8]) -> Result<bool, AllocError> {
-    Ok(is_told(rt, input, 1000, wanted)? && is_told(rt, input, 1, wanted)?)
+    let half = input.len() / 2 + 1;
+    Ok(
+        is_told(rt, input, 100_000, wanted)?
+            && is_told(rt, input, half, wanted)?
+            && is_told(rt, input, 1, wanted)?,
+    )
 }
 
 // whether the input is refused with that line, in any pieces, and nothing behind it is read
@@ -116,45 +272,30 @@ fn reads(rt: &HostRuntime, input: &[u8], wanted: &[u8]) -> Result<bool, AllocErr
 
 #[test]
 fn refuses_heads(rt: HostRuntime) {
-    let two_hosts = b"GET / HTTP/1.1\r\nHost: a\r\nHost: b\r\n\r\n";
-    assert!(rt; refuses(&rt, two_hosts, b"400\n").expect(&rt, "told"));
-    assert!(rt; refuses(&rt, b"GET / HTTP/1.1\r\n\r\n", b"400\n").expect(&rt, "told"));
-    let both =
-        b"POST / HTTP/1.1\r\nHost: a\r\nContent-Length: 5\r\nTransfer-Encoding: chunked\r\n\r\n";
-    assert!(rt; refuses(&rt, both, b"400\n").expect(&rt, "told"));
-    let gzip = b"POST / HTTP/1.1\r\nHost: a\r\nTransfer-Encoding: gzip\r\n\r\n";
-    assert!(rt; refuses(&rt, gzip, b"501\n").expect(&rt, "told"));
-    let list = b"POST / HTTP/1.1\r\nHost: a\r\nTransfer-Encoding: gzip, chunked\r\n\r\n";
-    assert!(rt; refuses(&rt, list, b"501\n").expect(&rt, "told"));
-    let sign = b"POST / HTTP/1.1\r\nHost: a\r\nContent-Length: +5\r\n\r\n";
-    assert!(rt; refuses(&rt, sign, b"400\n").expect(&rt, "told"));
-    let old = b"POST / HTTP/1.0\r\nTransfer-Encoding: chunked\r\n\r\n";
-    assert!(rt; refuses(&rt, old, b"400\n").expect(&rt, "told"));
-    let long = b"POST / HTTP/1.1\r\nHost: a\r\nContent-Length: 101\r\n\r\n";
-    assert!(rt; refuses(&rt, long, b"413\n").expect(&rt, "told"));
+    for (name, input, wanted) in faulty_heads() {
+        assert!(rt; refuses(&rt, input, wanted).expect(&rt, "told"), "{name}");
+    }
 }
 
 #[test]
 fn refuses_targets(rt: HostRuntime) {
-    assert!(rt;
-        refuses(&rt, b"GET /%zz HTTP/1.1\r\nHost: a\r\n\r\n", b"400\n").expect(&rt, "told")
-    );
-    assert!(rt;
-        refuses(&rt, b"GET /%00 HTTP/1.1\r\nHost: a\r\n\r\n", b"400\n").expect(&rt, "told")
-    );
-    assert!(rt;
-        refuses(&rt, b"OPTIONS * HTTP/1.1\r\nHost: a\r\n\r\n", b"400\n").expect(&rt, "told")
-    );
+    for (name, input, wanted) in faulty_targets() {
+        assert!(rt; refuses(&rt, input, wanted).expect(&rt, "told"), "{name}");
+    }
 }
 
 #[test]
 fn refuses_chunks(rt: HostRuntime) {
-    let no_size = b"POST / HTTP/1.1\r\nHost: a\r\nTransfer-Encoding: chunked\r\n\r\ng\r\n";
-    assert!(rt; refuses(&rt, no_size, b"400\n").expect(&rt, "told"));
-    let long = b"POST / HTTP/1.1\r\nHost: a\r\nTransfer-Encoding: chunked\r\n\r\n65\r\n";
-    assert!(rt; refuses(&rt, long, b"413\n").expect(&rt, "told"));
-    let feed = b"POST / HTTP/1.1\r\nHost: a\r\nTransfer-Encoding: chunked\r\n\r\n1\r\nx\n0\r\n\r\n";
-    assert!(rt; refuses(&rt, feed, b"400\n").expect(&rt, "told"));
+    for (name, input, wanted) in faulty_chunks() {
+        assert!(rt; refuses(&rt, input, wanted).expect(&rt, "told"), "{name}");
+    }
+}
+
+#[test]
+fn reads_requests(rt: HostRuntime) {
+    for (name, input, wanted) in requests() {
+        assert!(rt; reads(&rt, input, wanted).expect(&rt, "told"), "{name}");
+    }
 }
 
 #[test]
@@ -162,59 +303,83 @@ fn refuses_a_long_head(rt: HostRuntime) {
     assert!(rt; is_told(&rt, &[b'a'; 16384], 1000, b"431\n").expect(&rt, "told"));
 }
 
-#[test]
-fn reads_contents(rt: HostRuntime) {
-    let sized = b"POST /x HTTP/1.1\r\nHost: a\r\nContent-Length: 5\r\n\r\nhello";
-    assert!(rt; reads(&rt, sized, b"POST /x ? a hello\n").expect(&rt, "told"));
-    let empty = b"POST /x HTTP/1.1\r\nHost: a\r\nContent-Length: 0\r\n\r\n";
-    assert!(rt; reads(&rt, empty, b"POST /x ? a \n").expect(&rt, "told"));
-    let chunked =
-        b"POST / HTTP/1.1\r\nHost: a\r\nTransfer-Encoding: Chunked\r\n\r\n5;x=y\r\nhello\r\n1 \r\n!\r\n0\r\nX: y\r\n\r\n";
-    assert!(rt; reads(&rt, chunked, b"POST / ? a hello!\n").expect(&rt, "told"));
-    let expects =
-        b"POST / HTTP/1.1\r\nHost: a\r\nExpect: 100-Continue\r\nContent-Length: 2\r\n\r\nok";
-    assert!(rt; reads(&rt, expects, b"continue\nPOST / ? a ok\n").expect(&rt, "told"));
+// a head with so many fields
+fn fielded(rt: &HostRuntime, count: usize) -> Result<Bytes, AllocError> {
+    let mut head = Bytes::copy_of(rt.alloc(), b"GET / HTTP/1.1\r\nHost: a\r\n")?;
+    for _ in 1..count {
+        head.append(b"x: y\r\n")?;
+    }
+    head.append(b"\r\n")?;
+    Ok(head)
 }
 
 #[test]
-fn reads_targets(rt: HostRuntime) {
-    let dots = b"GET /a//b/%2e%2e/c?d=/../e#f HTTP/1.1\r\nHost: A.:80\r\n\r\n";
-    assert!(rt; reads(&rt, dots, b"GET /a/c ?d=/../e a \n").expect(&rt, "told"));
-    let absolute = b"GET HTTP://Example.com:8080?q HTTP/1.1\r\nHost: b\r\n\r\n";
-    assert!(rt; reads(&rt, absolute, b"GET / ?q example.com \n").expect(&rt, "told"));
+fn takes_a_hundred_fields(rt: HostRuntime) {
+    let most = fielded(&rt, 100).expect(&rt, "made");
+    let mut reader = Reader::over(most, client(), server());
+    match reader.next(rt.alloc(), 0).expect(&rt, "read") {
+        Next::Request(request) => assert!(rt; request.fields.as_slice().len() == 100),
+        _ => assert!(rt; false, "a hundred fields are refused"),
+    }
+    let more = fielded(&rt, 101).expect(&rt, "made");
+    assert!(rt; is_told_so(&rt, more.as_slice(), b"431\n").expect(&rt, "told"));
 }
 
 #[test]
 fn ends_and_cuts(rt: HostRuntime) {
-    assert!(rt; is_told(&rt, b"\r\n\n", 1, b"end\n").expect(&rt, "told"));
-    assert!(rt; is_told(&rt, b"GET / HT", 1, b"cut\n").expect(&rt, "told"));
+    assert!(rt; is_told_so(&rt, b"\r\n\n", b"end\n").expect(&rt, "told"));
+    assert!(rt; is_told_so(&rt, b"GET / HT", b"cut\n").expect(&rt, "told"));
     let cut = b"POST / HTTP/1.1\r\nHost: a\r\nExpect: 100-continue\r\nContent-Length: 2\r\n\r\no";
-    assert!(rt; is_told(&rt, cut, 1, b"continue\ncut\n").expect(&rt, "told"));
-    assert!(rt; is_told(&rt, cut, 1000, b"continue\ncut\n").expect(&rt, "told"));
+    assert!(rt; is_told_so(&rt, cut, b"continue\ncut\n").expect(&rt, "told"));
+}
+
+fn chunked_head() -> &'static [u8] {
+    b"POST / HTTP/1.1\r\nHost: a\r\nTransfer-Encoding: chunked\r\n\r\n"
+}
+
+// what a reader says of the head of a content in chunks at the first limit, and of that line behind it at the second one
+fn says_of_chunk(
+    rt: &HostRuntime,
+    first: u64,
+    second: u64,
+    line: &[u8],
+) -> Result<Next, AllocError> {
+    let mut reader = Reader::open(rt.alloc(), client(), server())?;
+    reader.feed(rt.alloc(), chunked_head())?;
+    reader.next(rt.alloc(), first)?;
+    reader.feed(rt.alloc(), line)?;
+    reader.next(rt.alloc(), second)
 }
 
 #[test]
 fn keeps_the_limit_of_the_head(rt: HostRuntime) {
-    let mut reader = Reader::open(rt.alloc(), local(40000), local(8080)).expect(&rt, "opened");
-    let head = b"POST / HTTP/1.1\r\nHost: a\r\nTransfer-Encoding: chunked\r\n\r\n";
-    reader.feed(rt.alloc(), head).expect(&rt, "fed");
-    assert!(rt;
-        matches!(
-            reader.next(rt.alloc(), 4).expect(&rt, "read"),
-            Next::NeedMore
-        )
-    );
-    reader.feed(rt.alloc(), b"5\r\n").expect(&rt, "fed");
-    assert!(rt;
-        matches!(
-            reader.next(rt.alloc(), 5).expect(&rt, "read"),
-            Next::Bad(413)
-        )
-    );
-    assert!(rt;
-        matches!(
-            reader.next(rt.alloc(), 9).expect(&rt, "read"),
-            Next::Bad(413)
-        )
-    );
+    let answer = says_of_chunk(&rt, 4, 5, b"5\r\n").expect(&rt, "read");
+    assert!(rt; matches!(answer, Next::Bad(413)));
+    let usual = 8_388_608;
+    let answer = says_of_chunk(&rt, usual, usual, b"800001\r\n").expect(&rt, "read");
+    assert!(rt; matches!(answer, Next::Bad(413)));
+    let answer = says_of_chunk(&rt, usual, usual, b"800000\r\n").expect(&rt, "read");
+    assert!(rt; matches!(answer, Next::NeedMore));
+}
+
+// so many pieces of empty lines, a CR at the end of each
+fn feed_empty_lines(rt: &HostRuntime, reader: &mut Reader, pieces: u32) -> Result<bool, AllocError>
+    requires { reader.old.ended ≡ false }
+    ensures { reader.new.ended ≡ reader.old.ended }
+{
+    for _ in 0..pieces {
+        reader.feed(rt.alloc(), b"\n\r\n\n\r\n\r")?;
+        if !matches!(reader.next(rt.alloc(), 0)?, Next::NeedMore) {
+            return Ok(false);
+        }
+    }
+    Ok(true)
+}
+
+#[test]
+fn lets_empty_lines_go(rt: HostRuntime) {
+    let mut reader = Reader::open(rt.alloc(), client(), server()).expect(&rt, "opened");
+    assert!(rt; feed_empty_lines(&rt, &mut reader, 1000).expect(&rt, "fed"));
+    assert!(rt; reader.kept_len() <= 20);
+    assert!(rt; !reader.has_begun());
 }

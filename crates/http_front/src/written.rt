@@ -1,5 +1,5 @@
 //! Replies as the bytes of HTTP/1.1 (RFC 9112, sections 4 to 6).
-ghost use Rattle.std.specs.Prelude.{◌≡◌, ◌++◌, ◌<◌, ◌||◌, true, flat_map, IfOk, OnOk, OnErr};
+ghost use Rattle.std.specs.Prelude.{◌≡◌, ◌++◌, ◌<◌, true, flat_map, length, IfOk, OnOk, OnErr};
 ghost use Rattle.http_front.specs.Written as spec;
 
 use itoa::Buffer;
@@ -55,9 +55,17 @@ fn extend_by_both(items: &mut Vec<u8>, first: &[u8], second: &[u8]) -> Result<()
     extended
 }
 
+/// The length of the content that `write_http` writes: none where `head`, the request's method, is HEAD, and none for a
+/// status that has no content (204 and 304; RFC 9110, sections 15.3.5 and 15.4.5).
+pub fn content_len(reply: &Reply, head: bool) -> usize
+    ensures { result ≡ length (spec.written_content reply.now head) }
+{
+    content_of(reply, head).len()
+}
+
 // the content that is written: none for a HEAD request
 fn content_of(reply: &Reply, head: bool) -> &[u8]
-    ensures { result.now ≡ spec.content_unless (head || spec.has_no_content reply.now.status) reply.now.body }
+    ensures { result.now ≡ spec.written_content reply.now head }
 {
     if head || has_no_content(reply.status) {
         b"".as_slice()

@@ -1,8 +1,10 @@
 use Rattle.std.proofs.Common.{◌∙◌, ◌+◌, ap, sym, drop, arith, length-drop}
 use Rattle.http_front.specs.Front.{head_begun}
 use Rattle.http_front.specs.NextUnit.{next_unit}
-use Rattle.http_front.specs.Reading.{told_of, limit_or, next_reading}
-use Rattle.http_front.proofs.ReaderLemmas.{reading_at, used_within, step_request, step_other}
+use Rattle.http_front.specs.Kept.{kept_next}
+use Rattle.http_front.specs.Reading.{told_of, limit_or}
+use Rattle.http_front.proofs.KeptLemmas.{head_kept}
+use Rattle.http_front.proofs.ReaderLemmas.{used_within, step_request, step_other}
 use Rattle.http_front.proofs.SearchLemmas.{search_start}
 use Rattle.http_front.proofs.reader.Reader.read.Goals as goal
 use Rattle.http_front.proofs.reader.Reader.read.Goals.{then-is_request, else-is_request}
@@ -27,11 +29,11 @@ pub returns-clause-ok : goal.returns-clause-ok
 returns-clause-ok c =
     let unread = c.behind-unread.ensures ∙ ap (λ bytes. drop c.self.inside.used bytes) c.deref.ensures.value in
     let told = c.in_ok-step.ensures.told ∙ (λ i. told_of c.self.inside.from c.self.inside.to (head_begun (unread i)) (next_unit (unread i) c.self.inside.ended (c.limit_or-limit.ensures i))) in
-    let after = ap (λ r. next_reading r c.args.max_body) c.self.view_is in
+    let after = ap (λ k. kept_next k c.args.max_body) c.self.view_is in
     let idle = sym c.asks_now.ensures ∙ c.if-asks_now.false in
     elim c.if-is_request.branch [
       | then-is_request w ↦ w.self-is ∙ step_request c.self.inside.from c.self.inside.to c.self.inside.bytes.items c.self.inside.used c.self.inside.ended c.self.inside.limit c.self.inside.is_told c.args.max_body c.in_ok-step.step.told told idle (sym c.is_request.ensures ∙ w.if-is_request.true) ∙ after
       | else-is_request w ↦ w.self-is
-          ∙ ap (λ kept. reading_at c.self.inside.from c.self.inside.to c.self.inside.bytes.items c.self.inside.used c.self.inside.ended kept c.self.inside.is_told) w.kept_limit-self-inside-else-is_request.ensures
-          ∙ step_other (reading_at c.self.inside.from c.self.inside.to c.self.inside.bytes.items c.self.inside.used c.self.inside.ended c.self.inside.limit c.self.inside.is_told) c.args.max_body c.in_ok-step.step.told told idle (sym c.is_request.ensures ∙ w.if-is_request.false) ∙ after
+          ∙ ap (λ kept. head_kept c.self.inside.from c.self.inside.to (drop c.self.inside.used c.self.inside.bytes.items) c.self.inside.ended kept c.self.inside.is_told) w.kept_limit-self-inside-else-is_request.ensures
+          ∙ step_other (head_kept c.self.inside.from c.self.inside.to (drop c.self.inside.used c.self.inside.bytes.items) c.self.inside.ended c.self.inside.limit c.self.inside.is_told) c.args.max_body c.in_ok-step.step.told told idle (sym c.is_request.ensures ∙ w.if-is_request.false) ∙ after
     ]
