@@ -51,20 +51,14 @@ pub fn run_words_are_inverse()
     // A run within a segment is read back.
     ensures packed { (run : Run) → IsTrue (is_in_segment run) → unpack_of (pack_of run) ≡ Some run }
     // What is read is within a segment, and its word is the one that was read.
-    ensures unpacked {
-        (word : ℕ) (run : Run)
-            → unpack_of word ≡ Some run → IsTrue (is_in_segment run) × (pack_of run ≡ word)
-    }
+    ensures unpacked { (word : ℕ) (run : Run)
+        → unpack_of word ≡ Some run → IsTrue (is_in_segment run) × (pack_of run ≡ word) }
     // The word of any run has the run's numbers, and a word is that of its numbers.
-    ensures numbers {
-        (run : Run) → run.chunk < 2 ^ 16 → run.size < 2 ^ 32 → numbers_of (pack_of run) ≡ run
-    }
+    ensures numbers { (run : Run) → run.chunk < 2 ^ 16 → run.size < 2 ^ 32 → numbers_of (pack_of run) ≡ run }
     ensures word { (word : ℕ) → pack_of (numbers_of word) ≡ word }
     // No two runs have one word.
-    ensures distinct {
-        (a : Run) (b : Run)
-            → a.chunk < 2 ^ 16 → a.size < 2 ^ 32 → b.chunk < 2 ^ 16 → b.size < 2 ^ 32
-            → pack_of a ≡ pack_of b
-            → a ≡ b
-    }
+    ensures distinct { (a : Run) (b : Run)
+        → a.chunk < 2 ^ 16 → a.size < 2 ^ 32 → b.chunk < 2 ^ 16 → b.size < 2 ^ 32
+        → pack_of a ≡ pack_of b
+        → a ≡ b }
 {}
