@@ -1,3 +1,9 @@
+pub mod Framing
 pub mod Handlers
+pub mod Limits
+pub mod Names
+pub mod Numeral
 pub mod Record
+pub mod Slice
+pub mod Text
 pub mod Token

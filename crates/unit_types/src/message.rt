@@ -1,7 +1,9 @@
 //! Requests and replies (RFC 9110, section 3.4).
+ghost use Rattle.std.specs.Prelude.{◌≡◌, ◌↔◌, IfOk, IsTrue};
 
 use crate::bytes::Bytes;
 use crate::field::Fields;
+use std::alloc::{AllocError, Global};
 
 /// An IPv4 address with a port.
 #[derive(Debug, Clone, Copy, PartialEq, Eq, Drop)]
@@ -37,6 +39,44 @@ pub struct Request {
     pub body: Bytes,
 }
 
+impl Request {
+    /// A copy.
+    ///
+    /// Fails for want of memory alone.
+    pub fn another(&self, alloc: Global) -> Result<Request, AllocError>
+        ensures { IfOk result (λ request. request ≡ self.now) }
+    {
+        Ok(Request {
+            method: Bytes::copy_of(alloc, self.method.as_slice())?,
+            target: Bytes::copy_of(alloc, self.target.as_slice())?,
+            path: Bytes::copy_of(alloc, self.path.as_slice())?,
+            query: Bytes::copy_of(alloc, self.query.as_slice())?,
+            host: Bytes::copy_of(alloc, self.host.as_slice())?,
+            minor: self.minor,
+            fields: self.fields.another(alloc)?,
+            from: self.from,
+            to: self.to,
+            body: Bytes::copy_of(alloc, self.body.as_slice())?,
+        })
+    }
+
+    /// Whether both ask the same: all parts are equal, the addresses too.
+    pub fn is_equal(&self, other: &Request) -> bool
+        ensures { IsTrue result ↔ (self.now ≡ other.now) }
+    {
+        self.method.is_equal(&other.method)
+            && self.target.is_equal(&other.target)
+            && self.path.is_equal(&other.path)
+            && self.query.is_equal(&other.query)
+            && self.host.is_equal(&other.host)
+            && self.minor == other.minor
+            && self.fields.is_equal(&other.fields)
+            && self.from == other.from
+            && self.to == other.to
+            && self.body.is_equal(&other.body)
+    }
+}
+
 /// A reply as a handler gives it.
 #[derive(Debug, Drop)]
 pub struct Reply {
@@ -46,4 +86,46 @@ pub struct Reply {
     pub fields: Fields,
     /// The content.
     pub body: Bytes,
+}
+
+impl Reply {
+    /// A copy.
+    ///
+    /// Fails for want of memory alone.
+    pub fn another(&self, alloc: Global) -> Result<Reply, AllocError>
+        ensures { IfOk result (λ reply. reply ≡ self.now) }
+    {
+        Ok(Reply {
+            status: self.status,
+            fields: self.fields.another(alloc)?,
+            body: Bytes::copy_of(alloc, self.body.as_slice())?,
+        })
+    }
+
+    /// Whether both have the same status, fields and content.
+    pub fn is_equal(&self, other: &Reply) -> bool
+        ensures { IsTrue result ↔ (self.now ≡ other.now) }
+    {
+        self.status == other.status
+            && self.fields.is_equal(&other.fields)
+            && self.body.is_equal(&other.body)
+    }
+}
+
+#[cfg(test)]
+mod tests {
+    use super::*;
+
+    #[test]
+    fn a_reply_is_its_copy(rt: HostRuntime) {
+        let reply = Reply {
+            status: 200,
+            fields: Fields::of(Vec::new(rt.alloc())),
+            body: Bytes::copy_of(rt.alloc(), b"hello").expect(&rt, "copied"),
+        };
+        let mut again = reply.another(rt.alloc()).expect(&rt, "copied");
+        assert!(rt; again.is_equal(&reply));
+        again.status = 201;
+        assert!(rt; !again.is_equal(&reply));
+    }
 }

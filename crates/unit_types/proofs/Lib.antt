@@ -1,0 +1,4 @@
+pub mod CutLemmas
+pub mod NameLemmas
+pub mod NumeralLemmas
+pub mod SliceLemmas
