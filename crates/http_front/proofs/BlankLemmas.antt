@@ -1,12 +1,13 @@
 -- What is found behind empty lines is found so many bytes further back.
-use Rattle.std.proofs.Common.{ℕ, ◌≡◌, ◌+◌, ◌-◌, refl, sym, ap, ◌∙◌, List, [], ◌++◌, length, take, drop, Bool, true, false, ◌==◌, Option, Some, None, arith, append_assoc, drop-drop}
+use Rattle.std.proofs.Common.{ℕ, ◌≡◌, ◌+◌, ◌-◌, refl, sym, ap, ◌∙◌, List, [], ◌++◌, length, take, drop, Bool, true, false, ◌==◌, Option, Some, None, arith, drop-drop}
 use lib.Seq.{drop-append_seam}
 use Rattle.httparse.specs.Grammar.{RequestHead}
 use Rattle.http_front.specs.declared.content.Content.{Content}
 use Rattle.http_front.specs.declared.content.Content.TheVariants.{Whole, Refused, Open}
 use Rattle.http_front.specs.declared.search.Search.{Search}
 use Rattle.http_front.specs.Head.{head_of}
-use Rattle.http_front.specs.Front.{Front, unready, too_long, block, blank_len, front_of, head_limit, is_ready, head_begun}
+use Rattle.http_front.specs.Front.{Front, unready, too_long, block, blank_len, front_of, is_ready, head_begun}
+use Rattle.unit_types.specs.Limits.{head_limit}
 use Rattle.http_front.specs.Message.{message_of, fields_of}
 use Rattle.http_front.specs.Checks.{has_too_many_lines, refusal_of}
 use Rattle.http_front.specs.Content.{content_of, is_continue_due}

@@ -2,7 +2,8 @@
 use Rattle.std.proofs.Common.{ℕ, ◌≡◌, ◌+◌, ◌<◌, ◌≤◌, refl, sym, ap, ◌∙◌, List, [], ◌∷◌, length, take, true, false, nat_le, Option, Some, None, arith, length-take-le}
 use Rattle.std.proofs.lemmas.Bool.Decides.{nat_tests}
 use Rattle.http_front.specs.Head.{lines_in}
-use Rattle.http_front.specs.Front.{unready, too_long, block, block_len, front_found, front_of, head_limit}
+use Rattle.http_front.specs.Front.{unready, too_long, block, block_len, front_found, front_of}
+use Rattle.unit_types.specs.Limits.{head_limit}
 use Rattle.http_front.specs.Chunks.{first_len, line_front}
 
 pub found_long : (limit : ℕ) (bytes : List ℕ) → limit ≤ length bytes → front_found limit bytes None ≡ too_long

@@ -6,7 +6,8 @@ use Rattle.unit_types.specs.declared.message.Addr.{Addr}
 use Rattle.http_front.specs.declared.content.Content.{Content}
 use Rattle.http_front.specs.declared.content.Content.TheVariants.{Whole, Refused, Open}
 use Rattle.http_front.specs.Head.{head_of, lines_in}
-use Rattle.http_front.specs.Front.{block, blank_len, block_len, front_found, front_of, is_ready, head_limit, head_begun}
+use Rattle.http_front.specs.Front.{block, blank_len, block_len, front_found, front_of, is_ready, head_begun}
+use Rattle.unit_types.specs.Limits.{head_limit}
 use Rattle.http_front.specs.Message.{fields_of, message_of, request_of}
 use Rattle.http_front.specs.Checks.{has_too_many_lines, refusal_of}
 use Rattle.http_front.specs.Content.{content_of, is_continue_due}

@@ -2,7 +2,6 @@
 use Rattle.std.proofs.Common.{ℕ, ◌≡◌, ◌+◌, refl, sym, ap, ◌∙◌, subst, List, [], ◌++◌, drop, Bool, true, false, not, ◌&&◌, if◌then◌else◌, Option, Some, None, append_assoc, append-nil, Result, Ok, Err, IfOk, OnOk, OnErr}
 use Rattle.std.specs.Result.{is_ok}
 use Rattle.unit_types.specs.declared.message.Addr.{Addr}
-use Rattle.http_front.specs.declared.reader.Next.{Next}
 use Rattle.http_front.specs.declared.reader.Next.TheVariants as Answer
 use Rattle.http_front.specs.declared.search.Search.{Search}
 use Rattle.http_front.specs.Front.{head_begun}
@@ -10,8 +9,8 @@ use Rattle.http_front.specs.NextUnit.{Found, request, bad, cut, finished, wait, 
 use Rattle.http_front.specs.Progress.{IsSearched}
 use Rattle.http_front.specs.Reading.{Reading, reading_of, limit_or, kept_limit, answer_at, behind_found, next_answer, next_reading}
 use Rattle.http_front.specs.Stands.{found_past, unit_past, Stands, head_unit}
-use Rattle.http_front.specs.Kept.{Stage, head, Kept, unit_at, begun_at, Counts, HasRead, fed, at_end, unit_of, asks_of, kept_answer, kept_behind, limited, kept_next}
-use Rattle.http_front.proofs.BlankLemmas.{AreBlank, begun_past, blank_gone}
+use Rattle.http_front.specs.Kept.{head, Kept, unit_at, begun_at, Counts, HasRead, fed, at_end, unit_of, asks_of, kept_answer, kept_behind, limited, kept_next}
+use Rattle.http_front.proofs.BlankLemmas.{begun_past, blank_gone}
 use Rattle.http_front.proofs.StandsLemmas.{stands_whole, stands_fed, stands_blank, stands_now, stands_left}
 
 -- what is kept where no content is

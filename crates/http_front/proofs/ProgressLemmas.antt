@@ -12,7 +12,8 @@ use Rattle.http_front.specs.declared.content.Content.{Content}
 use Rattle.http_front.specs.declared.chunk.Chunk.TheVariants.{Data}
 use Rattle.http_front.specs.declared.chunk.Chunk.TheVariants as Chunk
 use Rattle.http_front.specs.Head.{head_of}
-use Rattle.http_front.specs.Front.{block, blank_len, front_of, is_ready, head_limit, head_begun}
+use Rattle.http_front.specs.Front.{block, blank_len, front_of, is_ready, head_begun}
+use Rattle.unit_types.specs.Limits.{head_limit}
 use Rattle.http_front.specs.Message.{fields_of}
 use Rattle.http_front.specs.Target.{is_faulty_target}
 use Rattle.http_front.specs.Checks.{has_too_many_lines, lacks_host, is_ambiguous, has_other_coding, has_faulty_length, is_too_long, is_chunked, content_length, refusal_step, refusal_of}

@@ -6,7 +6,8 @@ use Rattle.unit_types.specs.declared.field.Field.{Field}
 use Rattle.http_front.specs.declared.content.Content.{Content}
 use Rattle.http_front.specs.declared.content.Content.TheVariants.{Whole, Refused, Open}
 use Rattle.http_front.specs.Head.{head_of}
-use Rattle.http_front.specs.Front.{Front, unready, too_long, block, blank_len, front_of, head_limit, head_begun}
+use Rattle.http_front.specs.Front.{Front, unready, too_long, block, blank_len, front_of}
+use Rattle.unit_types.specs.Limits.{head_limit}
 use Rattle.http_front.specs.Message.{Message, fields_of}
 use Rattle.http_front.specs.Target.{is_faulty_target}
 use Rattle.http_front.specs.Checks.{has_too_many_lines, lacks_host, is_ambiguous, has_other_coding, has_faulty_length, is_too_long, refusal_step, refusal_of}

@@ -6,7 +6,7 @@ use Rattle.httparse.specs.Spans.{header_bytes, name_and_value, IsRequestAt}
 use Rattle.httparse.specs.declared.spans.HeaderSpan.{HeaderSpan}
 use Rattle.httparse.specs.declared.spans.RequestSpans.{RequestSpans}
 use Rattle.unit_types.specs.declared.field.Field.{Field}
-use Rattle.http_front.specs.Text.{lowercase}
+use Rattle.unit_types.specs.Text.{lowercase}
 use Rattle.http_front.specs.Message.{field_of, field_at}
 
 -- ---- fields at their places

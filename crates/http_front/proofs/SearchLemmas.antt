@@ -9,7 +9,8 @@ use Rattle.std.proofs.lemmas.Bool.Decides.{nat_tests}
 use Rattle.memchr.specs.Find.{Nowhere, NoneBefore, Passes, IsFirstByte, is_byte}
 use Rattle.http_front.specs.declared.search.Search.{Search}
 use Rattle.http_front.specs.Head.{is_line_feed, lines_in}
-use Rattle.http_front.specs.Front.{unready, is_empty_line, blank_step, blank_in, block_step, block_in, blank_len, block_len, front_found, front_of, is_ready, head_limit, head_begun}
+use Rattle.http_front.specs.Front.{unready, is_empty_line, blank_step, blank_in, block_step, block_in, blank_len, block_len, front_found, front_of, is_ready, head_begun}
+use Rattle.unit_types.specs.Limits.{head_limit}
 use Rattle.http_front.specs.NextUnit.{front_unit, next_unit}
 use Rattle.http_front.specs.Progress.{IsSearched, waiting}
 use Rattle.http_front.proofs.Cuts.{Lacks, lacks_append, lines_at, lines_none, place_some, place_inside, place_none}

@@ -1,5 +1,5 @@
 -- What is found in what is kept, over more bytes and over the bytes that are let go.
-use Rattle.std.proofs.Common.{ℕ, ◌≡◌, ◌+◌, refl, sym, ap, ◌∙◌, List, [], ◌++◌, length, drop, Bool, true, false, arith, append_assoc, append-nil, drop-drop}
+use Rattle.std.proofs.Common.{ℕ, ◌≡◌, ◌+◌, refl, sym, ap, ◌∙◌, List, [], ◌++◌, length, drop, Bool, arith, append_assoc, append-nil, drop-drop}
 use lib.Seq.{drop-append_seam}
 use Rattle.http_front.specs.NextUnit.{Found, request, bad, cut, finished, wait, NextUnit, next_unit}
 use Rattle.http_front.specs.Stands.{found_past, unit_past, Stands, head_unit}

@@ -5,7 +5,8 @@ use Rattle.httparse.specs.Grammar.{RequestHead}
 use Rattle.http_front.specs.declared.content.Content.{Content}
 use Rattle.http_front.specs.declared.content.Content.TheVariants.{Whole, Refused, Open}
 use Rattle.http_front.specs.Head.{head_of}
-use Rattle.http_front.specs.Front.{Front, unready, too_long, block, blank_len, front_of, is_ready, head_limit, head_begun}
+use Rattle.http_front.specs.Front.{Front, unready, too_long, block, blank_len, front_of, is_ready, head_begun}
+use Rattle.unit_types.specs.Limits.{head_limit}
 use Rattle.http_front.specs.Message.{fields_of}
 use Rattle.http_front.specs.Checks.{has_too_many_lines, refusal_of}
 use Rattle.http_front.specs.Content.{content_of}

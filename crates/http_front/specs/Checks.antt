@@ -4,13 +4,14 @@ use Rattle.std.specs.List.{list_all}
 use Rattle.std.specs.Char.{is_ascii_digit}
 use Rattle.unit_types.specs.declared.field.Field.{Field}
 use Rattle.http_front.specs.Head.{lines_in}
-use Rattle.http_front.specs.Text.{lowercase}
+use Rattle.unit_types.specs.Limits.{field_limit}
+use Rattle.unit_types.specs.Text.{lowercase}
 use Rattle.http_front.specs.Fields.{count_of, value_of, has_some}
 use Rattle.http_front.specs.Target.{is_faulty_target}
 
--- more than 100 lines between the request line and the empty line: the fields are too large (431, RFC 6585, section 5)
+-- more lines than that between the request line and the empty line: the fields are too large (431, RFC 6585, section 5)
 abbrev pub has_too_many_lines : List ℕ → Bool
-has_too_many_lines block = nat_lt 102 (length (lines_in block))
+has_too_many_lines block = nat_lt (field_limit + 2) (length (lines_in block))
 
 -- a check of a head: the status that refuses it, and whether it does, by the minor version, the target and the fields
 pub record Check : Type 0 where

@@ -5,7 +5,8 @@ use Rattle.http_front.specs.declared.content.Content.{Content}
 use Rattle.http_front.specs.declared.chunk.Chunk.{Chunk}
 use Rattle.http_front.specs.declared.chunk.Chunk.TheVariants.{Data, Last, Refused, Open}
 use Rattle.http_front.specs.Head.{lines_in}
-use Rattle.http_front.specs.Front.{Front, unready, too_long, block, front_found, front_of, head_limit}
+use Rattle.http_front.specs.Front.{Front, unready, too_long, block, front_found, front_of}
+use Rattle.unit_types.specs.Limits.{head_limit}
 use Rattle.http_front.specs.ChunkLine.{chunk_size_of}
 
 -- ---- the first chunk

@@ -4,7 +4,7 @@ use Rattle.std.specs.List.{list_any}
 use Rattle.unit_types.specs.declared.field.Field.{Field}
 use Rattle.http_front.specs.declared.content.Content.{Content}
 use Rattle.http_front.specs.declared.content.Content.TheVariants.{Whole, Open}
-use Rattle.http_front.specs.Text.{lowercase}
+use Rattle.unit_types.specs.Text.{lowercase}
 use Rattle.http_front.specs.Fields.{is_named}
 use Rattle.http_front.specs.Checks.{is_chunked, content_length}
 use Rattle.http_front.specs.Chunks.{chunked_content}

@@ -2,6 +2,7 @@
 use Rattle.std.specs.Prelude.{ℕ, ◌+◌, Bool, true, false, ◌||◌, List, [], ◌∷◌, length, take, drop, nat_le, ◌==◌, IsTrue, Option, Some, None, if◌then◌else◌, bytes_eq}
 use Rattle.std.specs.Option.{option_map}
 use Rattle.httparse.specs.Ascii.{carriage_return}
+use Rattle.unit_types.specs.Limits.{head_limit}
 use Rattle.http_front.specs.Head.{lines_in}
 
 -- an empty line: nothing, or a CR alone, before its LF
@@ -31,10 +32,6 @@ block_in (line ∷ lines) = block_step (is_empty_line line) (length line) (block
 
 unfoldable pub block_len : List ℕ → Option ℕ
 block_len bytes = block_in (lines_in bytes)
-
--- the most bytes of a head block
-abbrev pub head_limit : ℕ
-head_limit = 16384
 
 -- what stands at the front of bytes that begin with no empty line
 pub data Front : Type 0 where

@@ -8,7 +8,7 @@ use Rattle.http_front.specs.declared.progress.Framing.{Framing}
 use Rattle.http_front.specs.declared.reader.Next.{Next}
 use Rattle.http_front.specs.declared.reader.Next.TheVariants as Answer
 use Rattle.http_front.specs.Front.{head_begun}
-use Rattle.http_front.specs.NextUnit.{Found, request, bad, cut, finished, wait, NextUnit}
+use Rattle.http_front.specs.NextUnit.{Found, request, NextUnit}
 use Rattle.http_front.specs.Reading.{Reading, limit_or, kept_limit, answer_at, told_of}
 use Rattle.http_front.specs.Stands.{Stands, head_unit, content_unit}
 

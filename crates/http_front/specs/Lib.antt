@@ -1,4 +1,3 @@
-pub mod Text
 pub mod Head
 pub mod Front
 pub mod Fields

@@ -11,7 +11,7 @@ use Rattle.unit_types.specs.declared.field.Field.{Field}
 use Rattle.unit_types.specs.declared.message.Addr.{Addr}
 use Rattle.unit_types.specs.declared.message.Request.{Request}
 use Rattle.path_normal.specs.Path.{normal_path_of}
-use Rattle.http_front.specs.Text.{lowercase}
+use Rattle.unit_types.specs.Text.{lowercase}
 use Rattle.http_front.specs.Fields.{is_named, value_of}
 use Rattle.http_front.specs.Target.{has_scheme, authority_of, raw_path_of, query_of}
 

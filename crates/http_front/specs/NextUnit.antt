@@ -2,7 +2,8 @@
 use Rattle.std.specs.Prelude.{ℕ, ◌+◌, Bool, true, false, List, length, take, drop, ◌==◌, Option, Some, None}
 use Rattle.httparse.specs.Grammar.{RequestHead}
 use Rattle.http_front.specs.Head.{head_of}
-use Rattle.http_front.specs.Front.{Front, unready, too_long, block, blank_len, front_found, front_of, head_limit}
+use Rattle.http_front.specs.Front.{Front, unready, too_long, block, blank_len, front_found, front_of}
+use Rattle.unit_types.specs.Limits.{head_limit}
 use Rattle.http_front.specs.Message.{Message, fields_of, message_of}
 use Rattle.http_front.specs.Checks.{has_too_many_lines, refusal_of}
 use Rattle.http_front.specs.declared.content.Content.{Content}

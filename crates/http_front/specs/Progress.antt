@@ -11,7 +11,8 @@ use Rattle.http_front.specs.declared.progress.Progress.TheVariants as At
 use Rattle.http_front.specs.declared.content.Content.{Content}
 use Rattle.http_front.specs.declared.content.Content.TheVariants.{Open}
 use Rattle.http_front.specs.Head.{is_line_feed}
-use Rattle.http_front.specs.Front.{blank_len, block_len, head_limit, head_begun}
+use Rattle.http_front.specs.Front.{blank_len, block_len, head_begun}
+use Rattle.unit_types.specs.Limits.{head_limit}
 use Rattle.http_front.specs.Checks.{is_chunked, content_length}
 use Rattle.http_front.specs.Chunks.{chunked_content}
 use Rattle.http_front.specs.Content.{sized_content}

@@ -1,5 +1,6 @@
 -- The bytes that a whole connection writes for the bytes that it reads (RFC 9112, section 9).
 use Rattle.std.specs.Prelude.{ℕ, zero, suc, ◌+◌, ◌*◌, Bool, true, false, ◌||◌, List, [], ◌++◌, drop, ◌==◌}
+use Rattle.unit_types.specs.Limits.{default_content_limit}
 use Rattle.unit_types.specs.declared.message.Addr.{Addr}
 use Rattle.unit_types.specs.declared.message.Request.{Request}
 use Rattle.unit_types.specs.declared.message.Reply.{Reply}
@@ -66,16 +67,12 @@ reply_bytes reply r close = http_bytes (reply r) (is_head_request r) close
 abbrev pub loopback : ℕ
 loopback = 127 * 16777216 + 1
 
--- the largest content that is taken where no configuration says another
-abbrev pub default_limit : ℕ
-default_limit = 8388608
-
 -- the connection of one handler: each request goes to it, and the input comes from a local client
 abbrev pub once_connection : (List ℕ → Request → Reply) → List ℕ → Connection
 once_connection reply_of name = record {
   from = record { ip = loopback; port = 40000 };
   to = record { ip = loopback; port = 8080 };
-  limit = default_limit;
+  limit = default_content_limit;
   answer = reply_bytes (reply_of name);
 }
 

@@ -4,7 +4,7 @@ use Rattle.std.specs.List.{list_all, list_any, before_first, after_first, positi
 use Rattle.std.specs.Char.{is_ascii_hexdigit}
 use Rattle.httparse.specs.Ascii.{del}
 use Rattle.percent_encoding.specs.Percent.{percent_decode}
-use Rattle.http_front.specs.Text.{lowercase}
+use Rattle.unit_types.specs.Text.{lowercase}
 
 abbrev pub is_question : ℕ → Bool
 is_question b = b == 63

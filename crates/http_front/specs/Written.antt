@@ -1,7 +1,7 @@
 -- A reply as the bytes of HTTP/1.1 (RFC 9112, sections 4 to 6).
 use Rattle.std.specs.Prelude.{ℕ, ◌+◌, ◌/◌, ◌%◌, Bool, true, false, ◌||◌, List, [], ◌∷◌, ◌++◌, length, ◌==◌, codes, decimal, if◌then◌else◌}
 use Rattle.std.specs.List.{flat_map}
-use Rattle.std.specs.Str.{str_eq_ignore_ascii_case}
+use Rattle.unit_types.specs.Framing.{frames_message}
 use Rattle.unit_types.specs.declared.field.Field.{Field}
 use Rattle.unit_types.specs.declared.message.Reply.{Reply}
 
@@ -70,19 +70,12 @@ abbrev pub field_line : List ℕ → List ℕ → List ℕ
 field_line name value = name ++ (58 ∷ 32 ∷ (value ++ crlf_text))
 
 -- the fields that say how the message is framed are the writer's own (RFC 9112, sections 6 and 9)
-abbrev pub is_like : List ℕ → List ℕ → Bool
-is_like name other = str_eq_ignore_ascii_case name other
-
-abbrev pub is_framing_name : List ℕ → Bool
-is_framing_name name =
-    is_like name (codes "content-length") || is_like name (codes "connection") || is_like name (codes "transfer-encoding")
-
 abbrev pub line_unless : Bool → Field → List ℕ
 line_unless true f = []
 line_unless false f = field_line f.name f.value
 
 abbrev pub kept_line : Field → List ℕ
-kept_line f = line_unless (is_framing_name f.name) f
+kept_line f = line_unless (frames_message f.name) f
 
 -- 204 and 304 have no content and no Content-Length (RFC 9110, sections 8.6, 15.3.5 and 15.4.5)
 abbrev pub has_no_content : ℕ → Bool

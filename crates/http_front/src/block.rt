@@ -5,12 +5,7 @@ ghost use Rattle.http_front.specs.Head.{is_line_feed, lines_in};
 ghost use Rattle.http_front.specs.Checks.{has_too_many_lines};
 
 use memchr::memchr;
-
-/// The most bytes of a head block.
-pub(crate) const HEAD_LIMIT: usize = 16384;
-
-/// The most field lines of a head.
-pub(crate) const FIELD_LIMIT: usize = 100;
+use unit_types::FIELD_LIMIT;
 
 /// How many bytes the empty lines at the front have.
 pub(crate) fn blank_len(bytes: &[u8]) -> usize

@@ -1,12 +1,14 @@
 //! The chunks of chunked coding (RFC 9112, section 7.1).
 ghost use Rattle.std.specs.Prelude.{◌≡◌, ◌+◌, ◌<◌, ◌≤◌, ◌^◌, length, take, drop};
 ghost use Rattle.http_front.specs.Chunks as spec;
-ghost use Rattle.http_front.specs.Front.{front_of, head_limit};
+ghost use Rattle.http_front.specs.Front.{front_of};
+ghost use Rattle.unit_types.specs.Limits.{head_limit};
 ghost use Rattle.http_front.specs.ChunkLine.{chunk_size_of};
 
-use crate::block::{HEAD_LIMIT, block_len, line_len};
+use crate::block::{block_len, line_len};
 use crate::text::first_bytes;
 use httparse::{Status, parse_chunk_size};
+use unit_types::HEAD_LIMIT;
 
 /// The most bytes of a line with a chunk's size.
 const LINE_LIMIT: usize = 1024;

@@ -10,9 +10,10 @@ ghost use Rattle.http_front.specs.Checks.{content_length};
 ghost use Rattle.http_front.specs.declared.progress.Progress.TheVariants as At;
 ghost use Rattle.http_front.specs.Progress.{framing_of, start, Tells, TellsBehind};
 ghost use Rattle.http_front.specs.Reading.{told_of, told_request, refused};
+ghost use Rattle.unit_types.specs.Limits.{head_limit};
 ghost use Rattle.unit_types.specs.declared.message.Addr.{Addr};
 
-use crate::block::{FIELD_LIMIT, HEAD_LIMIT, blank_len, block_len, has_too_many_lines};
+use crate::block::{blank_len, block_len, has_too_many_lines};
 use crate::checks::refusal_of;
 use crate::content::{Content, content_of, is_continue_due};
 use crate::head::whole_head;
@@ -22,7 +23,7 @@ use crate::request::request_of;
 use crate::text::{behind, first_bytes};
 use httparse::spans::EMPTY_HEADER_SPAN;
 use std::alloc::{AllocError, Global};
-use unit_types::{Addr, Request};
+use unit_types::{Addr, FIELD_LIMIT, HEAD_LIMIT, Request};
 
 /// An answer, how many bytes it uses up, and whether `100 Continue` is due before it.
 #[derive(Debug, Drop)]
@@ -101,7 +102,7 @@ pub(crate) fn read_front(
 
 // without a whole block within the limit
 fn without_block(rest: &[u8], ended: bool) -> Told
-    ensures { (from to : Addr) → result ≡ told_of from to (is_ready (front_found 16384 rest.now None)) (spec.without_block 16384 rest.now ended) }
+    ensures { (from to : Addr) → result ≡ told_of from to (is_ready (front_found head_limit rest.now None)) (spec.without_block head_limit rest.now ended) }
 {
     if HEAD_LIMIT <= rest.len() {
         return Told::refused(431);

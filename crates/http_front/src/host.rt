@@ -1,12 +1,11 @@
 //! The host that a request is for (RFC 9110, section 7.2).
 ghost use Rattle.std.specs.Prelude.{◌≡◌, IfOk};
-ghost use Rattle.http_front.specs.Text.{lowercase};
 ghost use Rattle.http_front.specs.Message as spec;
 
 use crate::fields::value_of;
 use crate::target::{authority_of, has_scheme};
 use std::alloc::{AllocError, Global};
-use unit_types::{Bytes, Field};
+use unit_types::{Bytes, Field, lowercase};
 
 /// The host of a request with this target and these fields.
 pub(crate) fn host_of(alloc: Global, target: &[u8], fields: &[Field]) -> Result<Bytes, AllocError>
@@ -73,13 +72,4 @@ fn without_last(text: &[u8]) -> &[u8]
     } else {
         &text[..text.len() - 1]
     }
-}
-
-/// A text with its ASCII letters in lower case.
-pub(crate) fn lowercase(alloc: Global, text: &[u8]) -> Result<Bytes, AllocError>
-    ensures { IfOk result (λ lower. lower ≡ lowercase text.now) }
-{
-    let mut lower = Vec::from_slice(alloc, text)?;
-    lower.as_mut_slice().make_ascii_lowercase();
-    Ok(Bytes::of(lower))
 }

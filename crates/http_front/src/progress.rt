@@ -6,13 +6,12 @@ ghost use Rattle.http_front.specs.Progress.{IsSearched, IsWithin, HeadOver, Cont
 ghost use Rattle.http_front.specs.declared.progress.Progress.TheVariants.{Content};
 ghost use Rattle.http_front.specs.declared.progress.Framing.TheVariants.{Length, Chunks};
 
-use crate::block::HEAD_LIMIT;
 use crate::checks::{is_chunked, length_text};
 use crate::chunk::{Chunk, first_chunk};
 use crate::number::number_within;
 use crate::search::{Search, search_on};
 use crate::text::behind;
-use unit_types::Field;
+use unit_types::{Field, HEAD_LIMIT};
 
 /// How the content behind a head is framed (RFC 9112, section 6).
 #[derive(Clone, Copy, Debug, PartialEq, Eq, Drop)]

@@ -4,12 +4,12 @@ ghost use Rattle.httparse.specs.Spans.{IsRequestAt, IsRequestWithin, IsHeaderWit
 ghost use Rattle.http_front.specs.Head.{head_in};
 ghost use Rattle.http_front.specs.Message as spec;
 
-use crate::host::{host_of, lowercase};
+use crate::host::host_of;
 use crate::target::{query_of, raw_path_of};
 use httparse::spans::{HeaderSpan, RequestSpans};
 use path_normal::normal_path;
 use std::alloc::{AllocError, Global};
-use unit_types::{Addr, Bytes, Field, Fields, Request};
+use unit_types::{Addr, Bytes, Field, Fields, Request, lowercase};
 
 /// The request, without content, of a head whose parts stand at these places of its block.
 pub(crate) fn request_of(

@@ -5,7 +5,7 @@ ghost use Rattle.http_front.specs.Written as spec;
 use itoa::Buffer;
 use std::alloc::{AllocError, Global};
 use std::mem::replace;
-use unit_types::{Bytes, Field, Fields, Reply};
+use unit_types::{Bytes, Field, Fields, Reply, frames_message};
 
 /// Puts the bytes of a reply behind `out`: without content where `head`, the request's method, is HEAD, and with
 /// `Connection: close` where the connection closes behind it.
@@ -133,7 +133,7 @@ fn put_kept_lines(text: &mut Vec<u8>, fields: &[Field]) -> Result<(), AllocError
 fn put_kept_line(text: &mut Vec<u8>, field: &Field) -> Result<(), AllocError>
     ensures { OnOk result (text.new.items ≡ text.old.items ++ spec.kept_line field.now) }
 {
-    if is_framing_name(field.name.as_slice()) {
+    if frames_message(field.name.as_slice()) {
         return Ok(());
     }
     put_line(text, field.name.as_slice(), field.value.as_slice())
@@ -166,14 +166,6 @@ fn put_line(text: &mut Vec<u8>, name: &[u8], value: &[u8]) -> Result<(), AllocEr
     text.extend_from_slice(value)?;
     text.extend_from_slice(b"\r\n")?;
     Ok(())
-}
-
-fn is_framing_name(name: &[u8]) -> bool
-    ensures { result ≡ spec.is_framing_name name.now }
-{
-    name.eq_ignore_ascii_case(b"content-length")
-        || name.eq_ignore_ascii_case(b"connection")
-        || name.eq_ignore_ascii_case(b"transfer-encoding")
 }
 
 fn phrase_of(status: u16) -> &'static str

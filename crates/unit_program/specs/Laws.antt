@@ -1,5 +1,6 @@
 -- The laws of the program's handlers.
 use Rattle.std.proofs.Common.{ℕ, ◌≤◌, ◌≡◌, lit≤, lit<, refl, List, [], ◌∷◌, ◌++◌, Bool, true, false, nat_le, if◌then◌else◌, bytes_eq, codes, decimal, length, arith, length-append}
+use Rattle.std.specs.List.Sorted.{IsStrictlySortedBy}
 use Rattle.std.proofs.lemmas.Bool.{leb-true}
 use Rattle.std.proofs.lemmas.Fmt.{length-decimal-le}
 use Rattle.std.proofs.lemmas.List.Sums.{AllPass-from_list_all}
@@ -7,19 +8,18 @@ use Rattle.std.proofs.lemmas.List.Elements.{All-cons, All-nil}
 use Rattle.unit_types.specs.Record.{number, length_prefixed, field_bytes, field_list_bytes, reply_record}
 use Rattle.unit_types.specs.Token.{is_tchar, IsToken, is_value_byte, IsFieldValue}
 use Rattle.unit_types.specs.Handlers.{IsNameList, IsReply, IsWritable}
+use Rattle.unit_types.specs.Limits.{IsShortName}
 use Rattle.unit_types.specs.declared.message.Reply.{Reply}
 use Rattle.unit_types.specs.declared.message.Request.{Request}
 use Rattle.unit_program.specs.Replies.{names_known, content_reply, hello_reply, content_limit, too_long_reply, within_limit, count_reply, echo_reply, unknown_reply, program_reply}
 
-abbrev IsShort : List ℕ → Type 0
-IsShort name = length name ≤ 255
-
 pub names_fit : IsNameList names_known
+unfolding IsStrictlySortedBy
 names_fit = record {
-  ascending = (refl, (refl, (tt, tt)));
-  short = All-cons IsShort (codes "count") (codes "echo" ∷ codes "hello" ∷ []) (lit≤ tt)
-      (All-cons IsShort (codes "echo") (codes "hello" ∷ []) (lit≤ tt)
-      (All-cons IsShort (codes "hello") [] (lit≤ tt) (All-nil IsShort)));
+  ascending = ((refl, (refl, tt)), ((refl, tt), (tt, tt)));
+  short = All-cons IsShortName (codes "count") (codes "echo" ∷ codes "hello" ∷ []) (lit≤ tt)
+      (All-cons IsShortName (codes "echo") (codes "hello" ∷ []) (lit≤ tt)
+      (All-cons IsShortName (codes "hello") [] (lit≤ tt) (All-nil IsShortName)));
 }
 
 token : IsToken (codes "Content-Type")
@@ -35,8 +35,7 @@ stream = AllPass-from_list_all is_value_byte (codes "application/octet-stream") 
 plain_fits : (body : List ℕ) → length body ≤ content_limit → IsReply (content_reply (codes "text/plain") body)
 unfolding reply_record field_list_bytes field_bytes length_prefixed number
 plain_fits body low = record {
-  final_status = lit≤ tt;
-  three_digits = lit≤ tt;
+  final_status = (lit≤ tt, lit≤ tt);
   writable = All-cons IsWritable (record { name = codes "Content-Type"; value = codes "text/plain" }) [] (token, plain) (All-nil IsWritable);
   short = omega (arith, low);
 }
@@ -44,8 +43,7 @@ plain_fits body low = record {
 stream_fits : (body : List ℕ) → length body ≤ content_limit → IsReply (content_reply (codes "application/octet-stream") body)
 unfolding reply_record field_list_bytes field_bytes length_prefixed number
 stream_fits body low = record {
-  final_status = lit≤ tt;
-  three_digits = lit≤ tt;
+  final_status = (lit≤ tt, lit≤ tt);
   writable = All-cons IsWritable (record { name = codes "Content-Type"; value = codes "application/octet-stream" }) [] (token, stream) (All-nil IsWritable);
   short = omega (arith, low);
 }
@@ -54,8 +52,7 @@ stream_fits body low = record {
 bare_fits : (status : ℕ) → 200 ≤ status → status ≤ 599 → IsReply (record { status = status; fields = []; body = [] })
 unfolding reply_record field_list_bytes field_bytes length_prefixed number
 bare_fits status low high = record {
-  final_status = low;
-  three_digits = high;
+  final_status = (low, high);
   writable = All-nil IsWritable;
   short = lit≤ tt;
 }

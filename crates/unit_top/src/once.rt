@@ -8,13 +8,10 @@ use http_front::{
     Next, Reader, continue_reply, error_reply, is_head_request, is_last_request, write_http,
 };
 use std::alloc::{AllocError, Global};
-use unit_types::{Addr, Bytes, Handlers, Request};
+use unit_types::{Addr, Bytes, DEFAULT_CONTENT_LIMIT, Handlers, Request};
 
 /// The most requests of a connection.
 const REQUEST_LIMIT: u32 = 1000;
-
-/// The largest content of a request, in bytes.
-const CONTENT_LIMIT: u64 = 8_388_608;
 
 /// 127.0.0.1
 const LOOPBACK: u32 = 0x7F00_0001;
@@ -59,7 +56,7 @@ pub fn once<H: Handlers>(
     let mut out = Bytes::of(Vec::new(alloc));
     let mut left = REQUEST_LIMIT;
     while left > 0 {
-        match reader.next(alloc, CONTENT_LIMIT)? {
+        match reader.next(alloc, DEFAULT_CONTENT_LIMIT)? {
             Next::Continue => out.append(continue_reply())?,
             Next::Request(request) => {
                 left -= 1;

@@ -1,6 +1,7 @@
 use Rattle.std.proofs.Common.{◌≡◌, ◌∙◌, ◌+◌, ap, sym, subst, drop, take, true, false, Some, List, ℕ, IfOk, arith, length-take, length-drop}
 use Rattle.http_front.specs.declared.front.Told.{Told}
-use Rattle.http_front.specs.Front.{block, blank_len, front_of, head_limit}
+use Rattle.http_front.specs.Front.{block, blank_len, front_of}
+use Rattle.unit_types.specs.Limits.{head_limit}
 use Rattle.http_front.specs.Head.{head_of}
 use Rattle.http_front.specs.Checks.{has_too_many_lines}
 use Rattle.http_front.specs.NextUnit.{block_unit}

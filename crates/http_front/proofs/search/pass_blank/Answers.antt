@@ -1,8 +1,7 @@
-use Rattle.std.proofs.Common.{◌≡◌, ◌≢◌, ◌≤◌, ◌+◌, ◌∙◌, sym, ap, subst, ℕ, drop, length, arith, length-drop}
-use Rattle.http_front.specs.declared.search.Search.{Search}
+use Rattle.std.proofs.Common.{◌+◌, ◌∙◌, sym, ap, subst, ℕ}
 use Rattle.http_front.specs.Front.{blank_len}
 use Rattle.http_front.specs.Progress.{IsSearched}
-use Rattle.http_front.proofs.SearchLemmas.{search_blanks, within_searched}
+use Rattle.http_front.proofs.SearchLemmas.{search_blanks}
 use Rattle.http_front.proofs.search.pass_blank.Goals as goal
 
 pub returns : goal.returns

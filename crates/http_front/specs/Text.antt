@@ -1,7 +1,0 @@
--- Texts in any case.
-use Rattle.std.specs.Prelude.{ℕ, List, map}
-use Rattle.std.specs.Char.{to_ascii_lowercase}
-
--- a text with its ASCII letters in lower case
-abbrev pub lowercase : List ℕ → List ℕ
-lowercase text = map to_ascii_lowercase text
