@@ -55,3 +55,19 @@ pub fn read_all<S: Source>(alloc: Global, src: &mut S) -> Result<Bytes, Stop>
         size += n;
     }
 }
+
+#[cfg(test)]
+mod tests {
+    use super::*;
+    use crate::memory::MemSource;
+
+    #[test]
+    fn reads_to_the_end(rt: HostRuntime) {
+        let alloc = rt.alloc();
+        let content = Bytes::copy_of(alloc, b"abc").expect(&rt, "copied");
+        let pieces = vec![in alloc; 2usize].expect(&rt, "made");
+        let mut source = MemSource::open(content, pieces, Vec::new(alloc));
+        let input = read_all(alloc, &mut source).expect(&rt, "read");
+        assert!(rt; input.as_slice() == b"abc".as_slice());
+    }
+}

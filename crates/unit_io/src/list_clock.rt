@@ -67,3 +67,21 @@ impl Clock for ListClock {
         self.show()
     }
 }
+
+#[cfg(test)]
+mod tests {
+    use super::*;
+
+    #[test]
+    fn the_last_reading_repeats(rt: HostRuntime) {
+        let mut readings = Vec::new(rt.alloc());
+        readings.push(5).expect(&rt, "pushed");
+        readings.push(9).expect(&rt, "pushed");
+        assert!(rt; readings.len() == 2);
+        assert!(rt; readings[0] == 5 && readings[1] == 9);
+        let mut clock = ListClock::open(readings);
+        assert_eq!(rt; clock.now(), 5);
+        assert_eq!(rt; clock.now(), 9);
+        assert_eq!(rt; clock.now(), 9);
+    }
+}

@@ -373,3 +373,40 @@ impl Conn for MemConn {
         }
     }
 }
+
+#[cfg(test)]
+mod tests {
+    use super::*;
+
+    const ADDR: Addr = Addr {
+        ip: 0x7F00_0001,
+        port: 40000,
+    };
+
+    #[test]
+    fn meets_each_event_in_parts(rt: HostRuntime) {
+        let alloc = rt.alloc();
+        let bytes = Bytes::copy_of(alloc, b"abc").expect(&rt, "copied");
+        let mut script = Vec::new(alloc);
+        script.push(Event::Give(bytes)).expect(&rt, "pushed");
+        script.push(Event::NotYet).expect(&rt, "pushed");
+        script.push(Event::Fail).expect(&rt, "pushed");
+        let listener = Bytes::of(Vec::new(alloc));
+        let mut conn = MemConn::open(alloc, script, Vec::new(alloc), listener, ADDR, ADDR);
+        let mut buf = [0u8; 2];
+        assert_eq!(rt; conn.read(&mut buf), ConnRead::Got(2));
+        assert_eq!(rt; conn.read(&mut buf), ConnRead::Got(1));
+        assert_eq!(rt; conn.check(), ConnCheck::Alive);
+        assert_eq!(rt; conn.read(&mut buf), ConnRead::NotYet);
+        assert_eq!(rt; conn.check(), ConnCheck::Failed);
+        assert_eq!(rt; conn.read(&mut buf), ConnRead::Failed);
+        assert_eq!(rt; conn.read(&mut buf), ConnRead::End);
+        assert_eq!(rt; conn.read(&mut buf), ConnRead::End);
+        let text = [7u8; 79];
+        assert_eq!(rt; conn.write(&text), ConnWrite::Wrote(64));
+        let ticket = conn.close();
+        assert!(rt; ticket.came.as_slice() == b"abc".as_slice());
+        assert!(rt; ticket.went.as_slice() == &text[..64]);
+        assert!(rt; ticket.ended && ticket.faults == 2);
+    }
+}

@@ -123,3 +123,18 @@ impl Link for MemLink {
         let _ = rt;
     }
 }
+
+#[cfg(test)]
+mod tests {
+    use super::*;
+
+    #[test]
+    fn ends_behind_its_script(rt: HostRuntime) {
+        let mut script = Vec::new(rt.alloc());
+        script.push(LinkEvent::NotYet).expect(&rt, "pushed");
+        let mut link = MemLink::open(script);
+        assert!(rt; matches!(link.accept(), Accepted::NotYet));
+        link.rest(&rt);
+        assert!(rt; matches!(link.accept(), Accepted::End));
+    }
+}
