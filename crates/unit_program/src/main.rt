@@ -32,7 +32,7 @@ fn command_words(rt: &HostRuntime) -> Result<Vec<String>, AllocError> {
 fn run(rt: &HostRuntime) -> Result<u8, AllocError> {
     let words = command_words(rt)?;
     let handlers = ProgramHandlers::open(rt.alloc())?;
-    let mut source = StdSource::open(rt.stdin());
+    let mut source = StdSource::open(rt.alloc(), rt.stdin())?;
     let mut sink = StdSink::open(rt.stdout());
     let mut errors = StdSink::open(rt.stderr());
     Ok(unit_top(
