@@ -4,7 +4,7 @@ ghost use Rattle.unit_model.specs.Sharing.{Holds};
 ghost use Rattle.nncq_ring.specs.Seats.{BelongsTo, knows};
 ghost use Rattle.nncq_ring.specs.Views.{held_by};
 
-use crate::timing::{Side, Timed, least_times, report};
+use crate::timing::{Side, Timed, Times, least_times, report};
 use crossbeam_queue::ArrayQueue;
 use nncq_ring::{PopEnd, PushEnd, Ring, RingSeat};
 use std::io;
@@ -26,8 +26,13 @@ pub fn alone<R: Wait>(rt: &HostRuntime, threads: &R) -> io::Result<()> {
 
 /// Two threads, each with half of the numbers, that push and pop at the same time. They are started by `threads`.
 pub fn shared<R: Threads + Wait + Sync>(rt: &HostRuntime, threads: &R) -> io::Result<()> {
-    let times = least_times(rt, RUNS, &RingShared { threads }, &QueueShared { threads })?;
-    report(rt, "ring, two threads", 200, times)
+    let mut least = Times::untaken();
+    for _ in 0..RUNS {
+        let measured = ring_shared_run(rt, threads)?;
+        let base = queue_shared_run(rt, threads)?;
+        least = least.after(measured, base);
+    }
+    report(rt, "ring, two threads", 200, least)
 }
 
 #[derive(Drop)]
@@ -55,28 +60,6 @@ impl<R: Wait> Side for QueueAlone<'_, R> {
         let start = Instant::now(rt)?;
         let done = queue_rounds(self.threads, &queue, 0);
         Timed::since(rt, &start, done == ROUNDS)
-    }
-}
-
-#[derive(Drop)]
-struct RingShared<'a, R> {
-    threads: &'a R,
-}
-
-impl<R: Threads + Wait + Sync> Side for RingShared<'_, R> {
-    fn run(&self, rt: &HostRuntime) -> io::Result<Timed> {
-        ring_shared_run(rt, self.threads)
-    }
-}
-
-#[derive(Drop)]
-struct QueueShared<'a, R> {
-    threads: &'a R,
-}
-
-impl<R: Threads + Wait + Sync> Side for QueueShared<'_, R> {
-    fn run(&self, rt: &HostRuntime) -> io::Result<Timed> {
-        queue_shared_run(rt, self.threads)
     }
 }
 

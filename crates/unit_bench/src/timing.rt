@@ -29,6 +29,24 @@ pub struct Times {
     pub base: u64,
 }
 
+impl Times {
+    /// The times before any run.
+    pub fn untaken() -> Times {
+        Times {
+            measured: u64::MAX,
+            base: u64::MAX,
+        }
+    }
+
+    /// The least times after a further run of each side.
+    pub fn after(self, measured: Timed, base: Timed) -> Times {
+        Times {
+            measured: best(self.measured, measured),
+            base: best(self.base, base),
+        }
+    }
+}
+
 /// The lower of a time and that of a later run, where the run did all that it was to do.
 fn best(best: u64, run: Timed) -> u64
     ensures { result ≡ (if run.is_whole then min best run.nanos else best) }
@@ -53,13 +71,9 @@ pub fn least_times<M: Side, B: Side>(
     measured: &M,
     base: &B,
 ) -> io::Result<Times> {
-    let mut least = Times {
-        measured: u64::MAX,
-        base: u64::MAX,
-    };
+    let mut least = Times::untaken();
     for _ in 0..runs {
-        least.measured = best(least.measured, measured.run(rt)?);
-        least.base = best(least.base, base.run(rt)?);
+        least = least.after(measured.run(rt)?, base.run(rt)?);
     }
     Ok(least)
 }
