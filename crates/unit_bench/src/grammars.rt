@@ -1,109 +1,100 @@
 //! Paths, patterns and expansions at twice the size: the time may grow by 2.3 at most.
 
-use crate::timing::{nanos_since, report};
+use crate::samples::{repeated, request};
+use crate::timing::{Side, Timed, least_times, report};
 use path_normal::{expand, normal_path};
 use pattern_text::TextPattern;
-use std::alloc::{AllocError, Global};
 use std::io;
-use std::rt::Runtime;
 use std::time::Instant;
-use unit_types::{Addr, Bytes, Fields, Request};
+use unit_types::Request;
 
-const ROUNDS: u32 = 400;
+const RUNS: u32 = 400;
 
-const SIZE: usize = 8192;
+/// How many bytes the longer text has.
+const SIZE: u64 = 16_384;
 
 /// `normal_path` of a path of many segments, some of which go up.
-pub fn normal_paths<R: Runtime>(rt: &R, alloc: Global) -> io::Result<()> {
-    let text = repeated(alloc, b"/ab/c/../%64e/.", 2 * SIZE)?;
-    let single = best_path(rt, alloc, &text[..text.len() / 2])?;
-    let double = best_path(rt, alloc, &text)?;
-    report(rt, "normal_path", double, single, 230)
+pub fn normal_paths(rt: &HostRuntime) -> io::Result<()> {
+    let text = repeated(rt.alloc(), b"/ab/c/../%64e/.", SIZE / 15)?;
+    let half = &text[..text.len() / 2];
+    let times = least_times(
+        rt,
+        RUNS,
+        &NormalPath { raw: &text },
+        &NormalPath { raw: half },
+    )?;
+    report(rt, "normal_path", 230, times)
 }
 
 /// `matches` of `*a*a*a*b` on bytes `a`.
-pub fn patterns<R: Runtime>(rt: &R, alloc: Global) -> io::Result<()> {
-    let pattern = TextPattern::parse(alloc, b"*a*a*a*b")?;
-    let text = repeated(alloc, b"a", 2 * SIZE)?;
-    let single = best_match(rt, &pattern, &text[..text.len() / 2])?;
-    let double = best_match(rt, &pattern, &text)?;
-    report(rt, "matches", double, single, 230)
+pub fn patterns(rt: &HostRuntime) -> io::Result<()> {
+    let pattern = &TextPattern::parse(rt.alloc(), b"*a*a*a*b")?;
+    let text = repeated(rt.alloc(), b"a", SIZE)?;
+    let whole = Matches {
+        pattern,
+        text: &text,
+    };
+    let half = Matches {
+        pattern,
+        text: &text[..text.len() / 2],
+    };
+    let times = least_times(rt, RUNS, &whole, &half)?;
+    report(rt, "matches", 230, times)
 }
 
 /// `expand` of a text of many variables.
-pub fn expansions<R: Runtime>(rt: &R, alloc: Global) -> io::Result<()> {
-    let request = request(alloc)?;
-    let text = repeated(alloc, b"$host and ${uri}", 2 * SIZE)?;
-    let single = best_expansion(rt, alloc, &text[..text.len() / 2], &request)?;
-    let double = best_expansion(rt, alloc, &text, &request)?;
-    report(rt, "expand", double, single, 230)
+pub fn expansions(rt: &HostRuntime) -> io::Result<()> {
+    let request = &request(rt.alloc(), b"example.org", b"/a/b c")?;
+    let text = repeated(rt.alloc(), b"$host and ${uri}", SIZE / 16)?;
+    let whole = Expand {
+        text: &text,
+        request,
+    };
+    let half = Expand {
+        text: &text[..text.len() / 2],
+        request,
+    };
+    let times = least_times(rt, RUNS, &whole, &half)?;
+    report(rt, "expand", 230, times)
 }
 
-/// The part again and again, up to about a size.
-fn repeated(alloc: Global, part: &[u8], size: usize) -> Result<Vec<u8>, AllocError> {
-    let mut text = Vec::new(alloc);
-    for _ in 0..size / part.len().max(1) {
-        text.extend_from_slice(part)?;
-    }
-    Ok(text)
+#[derive(Drop)]
+struct NormalPath<'a> {
+    raw: &'a [u8],
 }
 
-fn request(alloc: Global) -> Result<Request, AllocError> {
-    let address = Addr { ip: 0, port: 0 };
-    Ok(Request {
-        method: Bytes::copy_of(alloc, b"GET")?,
-        target: Bytes::copy_of(alloc, b"/")?,
-        path: Bytes::copy_of(alloc, b"/a/b c")?,
-        query: Bytes::copy_of(alloc, b"")?,
-        host: Bytes::copy_of(alloc, b"example.org")?,
-        minor: 1,
-        fields: Fields::of(Vec::new(alloc)),
-        from: address,
-        to: address,
-        body: Bytes::copy_of(alloc, b"")?,
-    })
-}
-
-fn best_path<R: Runtime>(rt: &R, alloc: Global, raw: &[u8]) -> io::Result<u64> {
-    let mut best = u64::MAX;
-    for _ in 0..ROUNDS {
+impl Side for NormalPath<'_> {
+    fn run(&self, rt: &HostRuntime) -> io::Result<Timed> {
         let start = Instant::now(rt)?;
-        let path = normal_path(alloc, raw)?;
-        let time = nanos_since(rt, &start)?;
-        if !path.as_slice().is_empty() {
-            best = best.min(time);
-        }
+        let path = normal_path(rt.alloc(), self.raw)?;
+        Timed::since(rt, &start, !path.as_slice().is_empty())
     }
-    Ok(best)
 }
 
-fn best_match<R: Runtime>(rt: &R, pattern: &TextPattern, text: &[u8]) -> io::Result<u64> {
-    let mut best = u64::MAX;
-    for _ in 0..ROUNDS {
-        let start = Instant::now(rt)?;
-        let matched = pattern.matches(text);
-        let time = nanos_since(rt, &start)?;
-        if !matched {
-            best = best.min(time);
-        }
-    }
-    Ok(best)
+#[derive(Drop)]
+struct Matches<'a> {
+    pattern: &'a TextPattern,
+    text: &'a [u8],
 }
 
-fn best_expansion<R: Runtime>(
-    rt: &R,
-    alloc: Global,
-    text: &[u8],
-    request: &Request,
-) -> io::Result<u64> {
-    let mut best = u64::MAX;
-    for _ in 0..ROUNDS {
+impl Side for Matches<'_> {
+    fn run(&self, rt: &HostRuntime) -> io::Result<Timed> {
         let start = Instant::now(rt)?;
-        let expansion = expand(alloc, text, request, true)?;
-        let time = nanos_since(rt, &start)?;
-        if !expansion.as_slice().is_empty() {
-            best = best.min(time);
-        }
+        let matched = self.pattern.matches(self.text);
+        Timed::since(rt, &start, !matched)
     }
-    Ok(best)
+}
+
+#[derive(Drop)]
+struct Expand<'a> {
+    text: &'a [u8],
+    request: &'a Request,
+}
+
+impl Side for Expand<'_> {
+    fn run(&self, rt: &HostRuntime) -> io::Result<Timed> {
+        let start = Instant::now(rt)?;
+        let expansion = expand(rt.alloc(), self.text, self.request, true)?;
+        Timed::since(rt, &start, !expansion.as_slice().is_empty())
+    }
 }

@@ -2,23 +2,23 @@
 //! pieces of one byte.
 ghost use Rattle.std.specs.Prelude.{◌≡◌, false, IfOk};
 
-use crate::timing::{best, nanos_since, report};
+use crate::samples::repeated;
+use crate::timing::{Side, Timed, least_times, report};
 use http_front::{Next, Reader};
 use httparse::Status;
 use httparse::spans::{EMPTY_HEADER_SPAN, parse_request};
 use std::alloc::{AllocError, Global};
 use std::io;
-use std::rt::Runtime;
 use std::time::Instant;
 use unit_types::Addr;
 
-const ROUNDS: u32 = 50;
+const RUNS: u32 = 50;
 
 const REQUESTS: u64 = 1000;
 
 const LIMIT: u64 = 8_388_608;
 
-const CHUNKS: usize = 2000;
+const CHUNKS: u64 = 2000;
 
 // a head of eight fields, as a browser sends it
 fn browser_head() -> &'static [u8] {
@@ -54,86 +54,113 @@ fn has_request(alloc: Global, reader: &mut Reader) -> Result<bool, AllocError>
 }
 
 /// `next` on a browser's head, less what the clock takes: at most six times as long as its parse alone.
-pub fn head_ratio<R: Runtime>(rt: &R, alloc: Global) -> io::Result<()> {
-    let input = repeated(alloc, browser_head(), REQUESTS)?;
-    let mut whole = u64::MAX;
-    let mut parsed = u64::MAX;
-    let mut clock = u64::MAX;
-    for _ in 0..ROUNDS {
-        parsed = parsed.min(parse_nanos(rt, browser_head())?);
-        clock = clock.min(clock_nanos(rt)?);
-        whole = whole.min(next_nanos(rt, alloc, &input)?);
-    }
-    report(rt, "next", whole.saturating_sub(clock), parsed, 600)
+pub fn head_ratio(rt: &HostRuntime) -> io::Result<()> {
+    let input = &repeated(rt.alloc(), browser_head(), REQUESTS)?;
+    let clock = least_times(rt, RUNS, &ReadClock {}, &Parse {})?.measured;
+    let mut times = least_times(rt, RUNS, &ReadHeads { input }, &Parse {})?;
+    times.measured = times.measured.saturating_sub(clock);
+    report(rt, "next", 600, times)
 }
 
-fn repeated(alloc: Global, part: &[u8], times: u64) -> Result<Vec<u8>, AllocError> {
-    let mut text = Vec::new(alloc);
-    for _ in 0..times {
-        text.extend_from_slice(part)?;
+/// Parses of the head, as many as there are requests.
+#[derive(Drop)]
+struct Parse {}
+
+impl Side for Parse {
+    fn run(&self, rt: &HostRuntime) -> io::Result<Timed> {
+        let start = Instant::now(rt)?;
+        let parsed = count_parses();
+        Timed::since(rt, &start, parsed == REQUESTS)
     }
-    Ok(text)
 }
 
-// the time of parses of the head, as many as there are requests
-fn parse_nanos<R: Runtime>(rt: &R, head: &[u8]) -> io::Result<u64> {
+fn count_parses() -> u64 {
     let mut headers = [EMPTY_HEADER_SPAN; 100];
     let mut parsed = 0u64;
-    let start = Instant::now(rt)?;
     for _ in 0..REQUESTS {
-        if let Ok(Status::Complete(_)) = parse_request(head, &mut headers) {
+        if let Ok(Status::Complete(_)) = parse_request(browser_head(), &mut headers) {
             parsed = parsed.saturating_add(1);
         }
     }
-    let time = nanos_since(rt, &start)?;
-    Ok(best(u64::MAX, time, parsed == REQUESTS))
+    parsed
 }
 
-// what the clock itself takes, as often as there are requests
-fn clock_nanos<R: Runtime>(rt: &R) -> io::Result<u64> {
-    let mut time = 0u64;
-    for _ in 0..REQUESTS {
-        let start = Instant::now(rt)?;
-        time = time.saturating_add(nanos_since(rt, &start)?);
-    }
-    Ok(time)
-}
+/// What the clock itself takes, as often as there are requests.
+#[derive(Drop)]
+struct ReadClock {}
 
-// the time of `next` for all requests of the input, without that of letting each request go
-fn next_nanos<R: Runtime>(rt: &R, alloc: Global, input: &[u8]) -> io::Result<u64> {
-    let mut reader = reader(alloc)?;
-    reader.feed(alloc, input)?;
-    let mut time = 0u64;
-    let mut found = 0u64;
-    for _ in 0..REQUESTS {
-        let start = Instant::now(rt)?;
-        let next = reader.next(alloc, LIMIT)?;
-        time = time.saturating_add(nanos_since(rt, &start)?);
-        if matches!(next, Next::Request(_)) {
-            found = found.saturating_add(1);
+impl Side for ReadClock {
+    fn run(&self, rt: &HostRuntime) -> io::Result<Timed> {
+        let mut nanos = 0u64;
+        for _ in 0..REQUESTS {
+            let start = Instant::now(rt)?;
+            nanos = nanos.saturating_add(Timed::since(rt, &start, true)?.nanos);
         }
+        Ok(Timed {
+            nanos,
+            is_whole: true,
+        })
     }
-    Ok(best(u64::MAX, time, found == REQUESTS))
+}
+
+/// `next` for all requests of the input, without letting each request go.
+#[derive(Drop)]
+struct ReadHeads<'a> {
+    input: &'a [u8],
+}
+
+impl Side for ReadHeads<'_> {
+    fn run(&self, rt: &HostRuntime) -> io::Result<Timed> {
+        let mut reader = reader(rt.alloc())?;
+        reader.feed(rt.alloc(), self.input)?;
+        let mut nanos = 0u64;
+        let mut is_whole = true;
+        for _ in 0..REQUESTS {
+            let run = next_run(rt, &mut reader)?;
+            nanos = nanos.saturating_add(run.nanos);
+            is_whole = is_whole && run.is_whole;
+        }
+        Ok(Timed { nanos, is_whole })
+    }
+}
+
+// one `next`, which is to find a request
+fn next_run(rt: &HostRuntime, reader: &mut Reader) -> io::Result<Timed> {
+    let start = Instant::now(rt)?;
+    let next = reader.next(rt.alloc(), LIMIT)?;
+    let run = Timed::since(rt, &start, matches!(next, Next::Request(_)));
+    drop(next);
+    run
 }
 
 /// Requests in one piece: each at most one and a half times as long as one alone.
-pub fn pipelined<R: Runtime>(rt: &R, alloc: Global) -> io::Result<()> {
-    let input = repeated(alloc, short_head(), REQUESTS)?;
-    let mut together = u64::MAX;
-    let mut alone = u64::MAX;
-    for _ in 0..ROUNDS {
-        together = together.min(piece_nanos(rt, alloc, &input, input.len())?);
-        alone = alone.min(piece_nanos(rt, alloc, &input, short_head().len())?);
-    }
-    report(rt, "requests in one piece", together, alone, 150)
+pub fn pipelined(rt: &HostRuntime) -> io::Result<()> {
+    let input = &repeated(rt.alloc(), short_head(), REQUESTS)?;
+    let together = Pieces {
+        input,
+        size: input.len(),
+    };
+    let alone = Pieces {
+        input,
+        size: short_head().len(),
+    };
+    let times = least_times(rt, RUNS, &together, &alone)?;
+    report(rt, "requests in one piece", 150, times)
 }
 
-// the time of all requests of the input in pieces of that size, with all that each piece has
-fn piece_nanos<R: Runtime>(rt: &R, alloc: Global, input: &[u8], size: usize) -> io::Result<u64> {
-    let start = Instant::now(rt)?;
-    let found = count_in_pieces(alloc, input, size)?;
-    let time = nanos_since(rt, &start)?;
-    Ok(best(u64::MAX, time, found > 0))
+/// All requests of the input in pieces of a size, with all that each piece has.
+#[derive(Drop)]
+struct Pieces<'a> {
+    input: &'a [u8],
+    size: usize,
+}
+
+impl Side for Pieces<'_> {
+    fn run(&self, rt: &HostRuntime) -> io::Result<Timed> {
+        let start = Instant::now(rt)?;
+        let found = count_in_pieces(rt.alloc(), self.input, self.size)?;
+        Timed::since(rt, &start, found > 0)
+    }
 }
 
 fn count_in_pieces(alloc: Global, input: &[u8], size: usize) -> Result<u64, AllocError> {
@@ -159,44 +186,52 @@ fn drain(alloc: Global, reader: &mut Reader) -> Result<u64, AllocError>
 }
 
 /// A head of 16,000 bytes byte by byte: at most twenty times as long as in one piece.
-pub fn head_bytes<R: Runtime>(rt: &R, alloc: Global) -> io::Result<()> {
-    let head = long_head(alloc)?;
-    let mut single = u64::MAX;
-    let mut whole = u64::MAX;
-    for _ in 0..ROUNDS {
-        single = single.min(piece_nanos(rt, alloc, &head, 1)?);
-        whole = whole.min(piece_nanos(rt, alloc, &head, head.len())?);
-    }
-    report(rt, "a head byte by byte", single, whole, 2000)
+pub fn head_bytes(rt: &HostRuntime) -> io::Result<()> {
+    let head = &long_head(rt.alloc())?;
+    let single = Pieces {
+        input: head,
+        size: 1,
+    };
+    let whole = Pieces {
+        input: head,
+        size: head.len(),
+    };
+    let times = least_times(rt, RUNS, &single, &whole)?;
+    report(rt, "a head byte by byte", 2000, times)
 }
 
-// a head with a hundred fields of 160 bytes but for the first
+// a field of 161 bytes with its line end
+fn long_field() -> &'static [u8] {
+    b"X-Filler: xxxxxxxxxxxxxxxxxxxxxxxxxxxxxxxxxxxxxxxxxxxxxxxxxxxxxxxxxxxxxxxxxxxxxxxxxxxxxxxxxxxxxxxxxxxxxxxxxxxxxxxxxxxxxxxxxxxxxxxxxxxxxxxxxxxxxxxxxxxxxxxxx\r\n"
+}
+
+// a head with a hundred fields of that size but for the first
 fn long_head(alloc: Global) -> Result<Vec<u8>, AllocError> {
-    let mut head = Vec::from_slice(alloc, b"GET / HTTP/1.1\r\nHost: a\r\n")?;
-    for _ in 0..99u32 {
-        head.extend_from_slice(b"X-Filler: ")?;
-        let len = head.len();
-        head.resize(len.saturating_add(149), b'x')?;
-        head.extend_from_slice(b"\r\n")?;
-    }
-    head.extend_from_slice(b"\r\n")?;
-    Ok(head)
+    let mut head = repeated(alloc, long_field(), 99)?;
+    head.extend_from_slice(b"Host: a\r\n\r\n")?;
+    let mut text = Vec::from_slice(alloc, b"GET / HTTP/1.1\r\n")?;
+    text.extend_from_slice(&head)?;
+    Ok(text)
 }
 
 /// A content of one-byte chunks byte by byte: twice as many take at most three times as long, told by the chunk.
-pub fn chunk_bytes<R: Runtime>(rt: &R, alloc: Global) -> io::Result<()> {
-    let few = chunked(alloc, CHUNKS)?;
-    let many = chunked(alloc, 2 * CHUNKS)?;
-    let mut single = u64::MAX;
-    let mut double = u64::MAX;
-    for _ in 0..ROUNDS {
-        single = single.min(piece_nanos(rt, alloc, &few, 1)?);
-        double = double.min(piece_nanos(rt, alloc, &many, 1)?);
-    }
-    report(rt, "one-byte chunks", double / 2, single, 150)
+pub fn chunk_bytes(rt: &HostRuntime) -> io::Result<()> {
+    let few = &chunked(rt.alloc(), CHUNKS)?;
+    let many = &chunked(rt.alloc(), 2 * CHUNKS)?;
+    let double = Pieces {
+        input: many,
+        size: 1,
+    };
+    let single = Pieces {
+        input: few,
+        size: 1,
+    };
+    let mut times = least_times(rt, RUNS, &double, &single)?;
+    times.measured /= 2;
+    report(rt, "one-byte chunks", 150, times)
 }
 
-fn chunked(alloc: Global, chunks: usize) -> Result<Vec<u8>, AllocError> {
+fn chunked(alloc: Global, chunks: u64) -> Result<Vec<u8>, AllocError> {
     let mut text = Vec::from_slice(alloc, chunked_head())?;
     for _ in 0..chunks {
         text.extend_from_slice(b"1\r\nx\r\n")?;

@@ -2,55 +2,63 @@
 ghost use Rattle.std.specs.Prelude.{◌≡◌, ◌<◌, ◌≤◌, ℕ};
 ghost use Rattle.chunk_map.specs.Seats.{BelongsTo};
 
-use crate::timing::{best, nanos_since, report};
+use crate::timing::{Side, Timed, least_times, report};
 use chunk_map::{ChunkMap, Claim, MapSeat};
-use std::alloc::Global;
+use std::alloc::{AllocError, Global};
 use std::io;
-use std::rt::Runtime;
 use std::sync::atomic::{AtomicU64, Ordering};
 use std::time::Instant;
 use unit_model::Run;
 
-const TRIES: u32 = 7;
+const RUNS: u32 = 7;
 
 const ROUNDS: u64 = 1_000_000;
 
 /// Claims one chunk of a half-full segment and gives it back, against ten loads, a fetch-and and a fetch-or.
-pub fn claims(rt: &impl Runtime, alloc: Global) -> io::Result<()> {
-    let mut base = u64::MAX;
-    let mut measured = u64::MAX;
-    let words = [
-        half(),
-        half(),
-        half(),
-        half(),
-        half(),
-        half(),
-        half(),
-        half(),
-        half(),
-        half(),
-    ];
-    for _ in 0..TRIES {
-        let start = Instant::now(rt)?;
-        let done = word_rounds(&words);
-        base = best(base, nanos_since(rt, &start)?, done == ROUNDS);
-        let (map, mut seat) = ChunkMap::open(alloc, 1)?;
+pub fn claims(rt: &HostRuntime) -> io::Result<()> {
+    let times = least_times(rt, RUNS, &ClaimRounds {}, &BareSteps {})?;
+    report(rt, "claim of a chunk", 300, times)
+}
+
+#[derive(Drop)]
+struct ClaimRounds {}
+
+impl Side for ClaimRounds {
+    fn run(&self, rt: &HostRuntime) -> io::Result<Timed> {
+        let (map, mut seat) = ChunkMap::open(rt.alloc(), 1)?;
         fill_half(&map, &mut seat);
         let start = Instant::now(rt)?;
         let done = map_rounds(&map, &mut seat);
-        measured = best(measured, nanos_since(rt, &start)?, done == ROUNDS);
+        Timed::since(rt, &start, done == ROUNDS)
     }
-    report(rt, "claim of a chunk", measured, base, 300)
 }
 
-// A word whose even bits are set.
-fn half() -> AtomicU64 {
-    AtomicU64::new(0x5555_5555_5555_5555)
+#[derive(Drop)]
+struct BareSteps {}
+
+impl Side for BareSteps {
+    fn run(&self, rt: &HostRuntime) -> io::Result<Timed> {
+        let words = half_words(rt.alloc())?;
+        let start = Instant::now(rt)?;
+        let done = word_rounds(&words);
+        Timed::since(rt, &start, done == ROUNDS)
+    }
+}
+
+// Ten words whose even bits are set.
+fn half_words(alloc: Global) -> Result<Vec<AtomicU64>, AllocError> {
+    let mut words = Vec::new(alloc);
+    for _ in 0..10u32 {
+        words.push(AtomicU64::new(0x5555_5555_5555_5555))?;
+    }
+    Ok(words)
 }
 
 // Loads all words, takes a bit of the first one, and gives it back.
-fn word_rounds(words: &[AtomicU64; 10]) -> u64 {
+fn word_rounds(words: &[AtomicU64]) -> u64 {
+    let Some(first) = words.first() else {
+        return 0;
+    };
     for round in 0..ROUNDS {
         let mut free = 0;
         for word in words {
@@ -59,8 +67,8 @@ fn word_rounds(words: &[AtomicU64; 10]) -> u64 {
         if free & 1 == 0 {
             return round;
         }
-        words[0].fetch_and(!1, Ordering::SeqCst);
-        words[0].fetch_or(1, Ordering::SeqCst);
+        first.fetch_and(!1, Ordering::SeqCst);
+        first.fetch_or(1, Ordering::SeqCst);
     }
     ROUNDS
 }

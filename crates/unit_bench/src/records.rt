@@ -2,7 +2,7 @@
 ghost use Rattle.std.specs.Prelude.{IfOk};
 ghost use Rattle.request_context.specs.Record.{IsRecordable};
 
-use crate::timing::{nanos_since, report};
+use crate::timing::{Side, Timed, least_times, report};
 use request_context::{Asked, read_record, write_record};
 use std::alloc::{AllocError, Global};
 use std::hint::black_box;
@@ -11,7 +11,7 @@ use std::time::Instant;
 
 const CONTENT: usize = 10_000_000;
 
-const ROUNDS: u32 = 15;
+const RUNS: u32 = 15;
 
 // What stands before the content in the record of an HTTP/1.0 request with empty texts and no fields.
 fn before_content() -> &'static [u8] {
@@ -37,53 +37,63 @@ fn asked_of(alloc: Global, bytes: &[u8]) -> io::Result<Asked>
     }
 }
 
-fn copy_nanos(rt: &HostRuntime, bytes: &[u8]) -> io::Result<u64> {
-    let start = Instant::now(rt)?;
-    let copy = black_box(Vec::from_slice(rt.alloc(), bytes)?);
-    let nanos = nanos_since(rt, &start);
-    drop(copy);
-    nanos
+#[derive(Drop)]
+struct CopyBytes<'a> {
+    bytes: &'a [u8],
 }
 
-fn write_nanos(rt: &HostRuntime, asked: &Asked) -> io::Result<u64>
-    requires { IsRecordable asked.now }
-{
-    let start = Instant::now(rt)?;
-    let written = black_box(write_record(rt.alloc(), asked)?);
-    let nanos = nanos_since(rt, &start);
-    drop(written);
-    nanos
+impl Side for CopyBytes<'_> {
+    fn run(&self, rt: &HostRuntime) -> io::Result<Timed> {
+        let start = Instant::now(rt)?;
+        let copy = black_box(Vec::from_slice(rt.alloc(), self.bytes)?);
+        let run = Timed::since(rt, &start, true);
+        drop(copy);
+        run
+    }
 }
 
-fn read_nanos(rt: &HostRuntime, bytes: &[u8]) -> io::Result<u64> {
-    let start = Instant::now(rt)?;
-    let read = black_box(read_record(rt.alloc(), bytes)?);
-    let nanos = nanos_since(rt, &start);
-    drop(read);
-    nanos
+#[derive(Drop)]
+struct WriteRecord<'a> {
+    asked: &'a Asked,
+    ghost recordable: { IsRecordable asked.now },
+}
+
+impl Side for WriteRecord<'_> {
+    fn run(&self, rt: &HostRuntime) -> io::Result<Timed> {
+        let start = Instant::now(rt)?;
+        let written = black_box(write_record(rt.alloc(), self.asked)?);
+        let run = Timed::since(rt, &start, true);
+        drop(written);
+        run
+    }
+}
+
+#[derive(Drop)]
+struct ReadRecord<'a> {
+    bytes: &'a [u8],
+}
+
+impl Side for ReadRecord<'_> {
+    fn run(&self, rt: &HostRuntime) -> io::Result<Timed> {
+        let start = Instant::now(rt)?;
+        let read = black_box(read_record(rt.alloc(), self.bytes)?);
+        let run = Timed::since(rt, &start, true);
+        drop(read);
+        run
+    }
 }
 
 /// Writing the record: at most twice a copy.
 pub fn write_record_ratio(rt: &HostRuntime) -> io::Result<()> {
-    let bytes = record(rt.alloc())?;
-    let asked = asked_of(rt.alloc(), &bytes)?;
-    let mut copied = u64::MAX;
-    let mut written = u64::MAX;
-    for _ in 0..ROUNDS {
-        copied = copied.min(copy_nanos(rt, &bytes)?);
-        written = written.min(write_nanos(rt, &asked)?);
-    }
-    report(rt, "write_record", written, copied, 200)
+    let bytes = &record(rt.alloc())?;
+    let asked = &asked_of(rt.alloc(), bytes)?;
+    let times = least_times(rt, RUNS, &WriteRecord { asked }, &CopyBytes { bytes })?;
+    report(rt, "write_record", 200, times)
 }
 
 /// Reading the record: at most twice a copy.
 pub fn read_record_ratio(rt: &HostRuntime) -> io::Result<()> {
-    let bytes = record(rt.alloc())?;
-    let mut copied = u64::MAX;
-    let mut read = u64::MAX;
-    for _ in 0..ROUNDS {
-        copied = copied.min(copy_nanos(rt, &bytes)?);
-        read = read.min(read_nanos(rt, &bytes)?);
-    }
-    report(rt, "read_record", read, copied, 200)
+    let bytes = &record(rt.alloc())?;
+    let times = least_times(rt, RUNS, &ReadRecord { bytes }, &CopyBytes { bytes })?;
+    report(rt, "read_record", 200, times)
 }

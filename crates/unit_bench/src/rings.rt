@@ -4,64 +4,87 @@ ghost use Rattle.unit_model.specs.Sharing.{Holds};
 ghost use Rattle.nncq_ring.specs.Seats.{BelongsTo, knows};
 ghost use Rattle.nncq_ring.specs.Views.{held_by};
 
-use crate::timing::{best, nanos_since, report};
+use crate::timing::{Side, Timed, Times, least_times, report};
 use crossbeam_queue::ArrayQueue;
 use nncq_ring::{PopEnd, PushEnd, Ring, RingSeat};
-use std::alloc::Global;
 use std::io;
-use std::rt::Runtime;
 use std::sync::Wait;
 use std::thread::{self, Threads};
 use std::time::Instant;
 
-const TRIES: u32 = 7;
+const RUNS: u32 = 7;
 
 const ROUNDS: u64 = 1_000_000;
 
 const SIZE: u32 = 64;
 
-/// One thread that pushes a number and pops it, again and again.
-pub fn alone<R: Runtime + Wait>(rt: &R, alloc: Global) -> io::Result<()> {
-    let mut base = u64::MAX;
-    let mut measured = u64::MAX;
-    for _ in 0..TRIES {
-        let queue = ArrayQueue::new(alloc, SIZE as usize)?;
-        let start = Instant::now(rt)?;
-        let done = queue_rounds(rt, &queue, 0);
-        base = best(base, nanos_since(rt, &start)?, done == ROUNDS);
-        let (ring, mut seat) = Ring::open(alloc, SIZE, SIZE as u64)?;
-        let start = Instant::now(rt)?;
-        let done = ring_rounds(rt, &ring, &mut seat, 0);
-        measured = best(measured, nanos_since(rt, &start)?, done == ROUNDS);
-    }
-    report(rt, "ring, one thread", measured, base, 150)
+/// One thread that pushes a number and pops it, again and again. It waits by `threads`.
+pub fn alone<R: Wait>(rt: &HostRuntime, threads: &R) -> io::Result<()> {
+    let times = least_times(rt, RUNS, &RingAlone { threads }, &QueueAlone { threads })?;
+    report(rt, "ring, one thread", 150, times)
 }
 
-/// Two threads, each with half of the numbers, that push and pop at the same time.
-pub fn shared<R: Runtime + Threads + Wait + Sync>(rt: &R, alloc: Global) -> io::Result<()> {
-    let mut base = u64::MAX;
-    let mut measured = u64::MAX;
-    for _ in 0..TRIES {
-        let queue = ArrayQueue::new(alloc, SIZE as usize)?;
-        let start = Instant::now(rt)?;
-        let (one, two) = thread::join(
-            rt,
-            || queue_rounds(rt, &queue, 0),
-            || queue_rounds(rt, &queue, SIZE / 2),
-        );
-        base = best(base, nanos_since(rt, &start)?, one.min(two) == ROUNDS);
-        let (ring, mut seat) = Ring::open(alloc, SIZE, SIZE as u64)?;
-        let mut other = ring.split(&mut seat);
-        pass_half(&ring, &mut seat, &mut other);
-        let start = Instant::now(rt)?;
-        let (one, two) = thread::join(
-            rt,
-            || ring_rounds(rt, &ring, &mut seat, 0),
-            || ring_rounds(rt, &ring, &mut other, SIZE / 2),
-        );
-        measured = best(measured, nanos_since(rt, &start)?, one.min(two) == ROUNDS);
+/// Two threads, each with half of the numbers, that push and pop at the same time. They are started by `threads`.
+pub fn shared<R: Threads + Wait + Sync>(rt: &HostRuntime, threads: &R) -> io::Result<()> {
+    let mut least = Times::untaken();
+    for _ in 0..RUNS {
+        let measured = ring_shared_run(rt, threads)?;
+        let base = queue_shared_run(rt, threads)?;
+        least = least.after(measured, base);
     }
-    report(rt, "ring, two threads", measured, base, 200)
+    report(rt, "ring, two threads", 200, least)
+}
+
+#[derive(Drop)]
+struct RingAlone<'a, R> {
+    threads: &'a R,
+}
+
+impl<R: Wait> Side for RingAlone<'_, R> {
+    fn run(&self, rt: &HostRuntime) -> io::Result<Timed> {
+        let (ring, mut seat) = Ring::open(rt.alloc(), SIZE, SIZE as u64)?;
+        let start = Instant::now(rt)?;
+        let done = ring_rounds(self.threads, &ring, &mut seat, 0);
+        Timed::since(rt, &start, done == ROUNDS)
+    }
+}
+
+#[derive(Drop)]
+struct QueueAlone<'a, R> {
+    threads: &'a R,
+}
+
+impl<R: Wait> Side for QueueAlone<'_, R> {
+    fn run(&self, rt: &HostRuntime) -> io::Result<Timed> {
+        let queue = ArrayQueue::new(rt.alloc(), SIZE as usize)?;
+        let start = Instant::now(rt)?;
+        let done = queue_rounds(self.threads, &queue, 0);
+        Timed::since(rt, &start, done == ROUNDS)
+    }
+}
+
+fn ring_shared_run<R: Threads + Wait + Sync>(rt: &HostRuntime, threads: &R) -> io::Result<Timed> {
+    let (ring, mut seat) = Ring::open(rt.alloc(), SIZE, SIZE as u64)?;
+    let mut other = ring.split(&mut seat);
+    pass_half(&ring, &mut seat, &mut other);
+    let start = Instant::now(rt)?;
+    let (one, two) = thread::join(
+        threads,
+        || ring_rounds(threads, &ring, &mut seat, 0),
+        || ring_rounds(threads, &ring, &mut other, SIZE / 2),
+    );
+    Timed::since(rt, &start, one.min(two) == ROUNDS)
+}
+
+fn queue_shared_run<R: Threads + Wait + Sync>(rt: &HostRuntime, threads: &R) -> io::Result<Timed> {
+    let queue = ArrayQueue::new(rt.alloc(), SIZE as usize)?;
+    let start = Instant::now(rt)?;
+    let (one, two) = thread::join(
+        threads,
+        || queue_rounds(threads, &queue, 0),
+        || queue_rounds(threads, &queue, SIZE / 2),
+    );
+    Timed::since(rt, &start, one.min(two) == ROUNDS)
 }
 
 fn queue_rounds<R: Wait>(rt: &R, queue: &ArrayQueue<u32>, first: u32) -> u64 {

@@ -1,19 +1,14 @@
 //! Routing through many steps, beside a loop that compares as many texts.
-ghost use Rattle.std.specs.Prelude.{◌≤◌, All, IfOk, length};
-ghost use Rattle.conf_tree.specs.Document.{IsDocument};
-ghost use Rattle.conf_tree.specs.View.{data_of};
 
-use crate::timing::{best, nanos_since, report};
-use conf_tree::{Tree, read_tree};
+use crate::samples::{request, tree_of};
+use crate::timing::{Side, Timed, least_times, report};
 use conf_validate::{Conf, validate};
 use route_match::{Target, route};
 use std::alloc::{AllocError, Global};
 use std::io;
-use std::rt::Clock;
 use std::time::Instant;
-use unit_types::{Addr, Bytes, Fields, Request};
+use unit_types::{Bytes, Request};
 
-/// Each time is the least of so many runs.
 const RUNS: u32 = 400;
 
 /// How many steps the configuration has, each with a host and a path.
@@ -28,38 +23,45 @@ enum Paths {
     Same,
 }
 
+/// The hosts and the paths of all steps.
+#[derive(Drop)]
+struct Texts {
+    hosts: Vec<Bytes>,
+    paths: Vec<Bytes>,
+}
+
 /// Prints how many times as long a request to the last step takes as a loop that compares its host and its path with
 /// those of all steps.
-pub fn measure<R: Print + Clock + AllocGlobal>(rt: &R) -> io::Result<()> {
-    measure_paths(rt, "route", Paths::Own, 400)?;
-    measure_paths(rt, "route, all paths the same", Paths::Same, 400)
+pub fn measure(rt: &HostRuntime) -> io::Result<()> {
+    measure_paths(rt, "route", Paths::Own)?;
+    measure_paths(rt, "route, all paths the same", Paths::Same)
 }
 
-fn measure_paths<R: Print + Clock + AllocGlobal>(
-    rt: &R,
-    name: &str,
-    paths: Paths,
-    most: u64,
-) -> io::Result<()> {
-    let alloc = rt.alloc();
-    let conf = configuration(alloc, paths)?;
-    let host_list = hosts(alloc)?;
-    let path_list = path_texts(alloc, paths)?;
-    let request = request(alloc, paths)?;
-    let routed = routed(rt, &conf, &request)?;
-    let compared = compared(rt, &host_list, &path_list, &request)?;
-    report(rt, name, routed, compared, most)
+fn measure_paths(rt: &HostRuntime, name: &str, paths: Paths) -> io::Result<()> {
+    let texts = &texts_of(rt.alloc(), paths)?;
+    let conf = &configuration(rt.alloc(), paths)?;
+    let request = &last_request(rt.alloc(), paths)?;
+    let times = least_times(
+        rt,
+        RUNS,
+        &Route { conf, request },
+        &Compare { texts, request },
+    )?;
+    report(rt, name, 400, times)
 }
 
-fn routed<R: Clock>(rt: &R, conf: &Conf, request: &Request) -> io::Result<u64> {
-    let mut least = u64::MAX;
-    for _ in 0..RUNS {
+#[derive(Drop)]
+struct Route<'a> {
+    conf: &'a Conf,
+    request: &'a Request,
+}
+
+impl Side for Route<'_> {
+    fn run(&self, rt: &HostRuntime) -> io::Result<Timed> {
         let start = Instant::now(rt)?;
-        let target = route(conf, b"*:80", request);
-        let time = nanos_since(rt, &start)?;
-        least = best(least, time, is_last(target));
+        let target = route(self.conf, b"*:80", self.request);
+        Timed::since(rt, &start, is_last(target))
     }
-    Ok(least)
 }
 
 fn is_last(target: Target) -> bool {
@@ -69,38 +71,34 @@ fn is_last(target: Target) -> bool {
     }
 }
 
-fn compared<R: Clock>(
-    rt: &R,
-    hosts: &[Bytes],
-    paths: &[Bytes],
-    request: &Request,
-) -> io::Result<u64> {
-    let mut least = u64::MAX;
-    for _ in 0..RUNS {
-        let start = Instant::now(rt)?;
-        let same_hosts = equal_texts(hosts, &request.host);
-        let same_paths = equal_texts(paths, &request.path);
-        let time = nanos_since(rt, &start)?;
-        least = best(least, time, same_hosts == 1 && same_paths > 0);
-    }
-    Ok(least)
+#[derive(Drop)]
+struct Compare<'a> {
+    texts: &'a Texts,
+    request: &'a Request,
 }
 
-fn equal_texts(texts: &[Bytes], wanted: &Bytes) -> usize {
-    texts.iter().filter(|text| text.is_equal(wanted)).count()
+impl Side for Compare<'_> {
+    fn run(&self, rt: &HostRuntime) -> io::Result<Timed> {
+        let start = Instant::now(rt)?;
+        let same_hosts = equal_texts(&self.texts.hosts, &self.request.host);
+        let same_paths = equal_texts(&self.texts.paths, &self.request.path);
+        Timed::since(rt, &start, same_hosts == 1 && same_paths > 0)
+    }
+}
+
+fn equal_texts(texts: &[Bytes], wanted: &Bytes) -> u64 {
+    let mut equal = 0u64;
+    for text in texts {
+        if text.is_equal(wanted) {
+            equal = equal.saturating_add(1);
+        }
+    }
+    equal
 }
 
 /// The host of a step.
 fn host(alloc: Global, step: u32) -> Result<String, AllocError> {
     format!(in alloc; "www.example.shop{:04}", step)
-}
-
-fn hosts(alloc: Global) -> Result<Vec<Bytes>, AllocError> {
-    let mut list = Vec::new(alloc);
-    for step in 0..STEPS {
-        list.push(Bytes::copy_of(alloc, host(alloc, step)?.as_bytes())?)?;
-    }
-    Ok(list)
 }
 
 /// The path of a step.
@@ -111,63 +109,56 @@ fn path(alloc: Global, paths: Paths, step: u32) -> Result<String, AllocError> {
     }
 }
 
-fn path_texts(alloc: Global, paths: Paths) -> Result<Vec<Bytes>, AllocError> {
-    let mut list = Vec::new(alloc);
+fn texts_of(alloc: Global, paths: Paths) -> Result<Texts, AllocError> {
+    let mut texts = Texts {
+        hosts: Vec::new(alloc),
+        paths: Vec::new(alloc),
+    };
     for step in 0..STEPS {
-        list.push(Bytes::copy_of(alloc, path(alloc, paths, step)?.as_bytes())?)?;
+        let host = host(alloc, step)?;
+        texts.hosts.push(Bytes::copy_of(alloc, host.as_bytes())?)?;
+        let path = path(alloc, paths, step)?;
+        texts.paths.push(Bytes::copy_of(alloc, path.as_bytes())?)?;
     }
-    Ok(list)
+    Ok(texts)
 }
 
-fn request(alloc: Global, paths: Paths) -> Result<Request, AllocError> {
+fn last_request(alloc: Global, paths: Paths) -> Result<Request, AllocError> {
+    let host = host(alloc, STEPS - 1)?;
     let path = path(alloc, paths, STEPS - 1)?;
-    let address = Addr { ip: 0, port: 80 };
-    Ok(Request {
-        method: Bytes::copy_of(alloc, b"GET")?,
-        target: Bytes::copy_of(alloc, path.as_bytes())?,
-        path: Bytes::copy_of(alloc, path.as_bytes())?,
-        query: Bytes::copy_of(alloc, b"")?,
-        host: Bytes::copy_of(alloc, host(alloc, STEPS - 1)?.as_bytes())?,
-        minor: 1,
-        fields: Fields::of(Vec::new(alloc)),
-        from: address,
-        to: address,
-        body: Bytes::copy_of(alloc, b"")?,
-    })
+    request(alloc, host.as_bytes(), path.as_bytes())
 }
 
 /// The configuration of the steps.
 fn configuration(alloc: Global, paths: Paths) -> Result<Conf, AllocError> {
-    let tree = document(alloc, paths)?;
+    let text = document(alloc, paths)?;
+    let tree = tree_of(alloc, &text)?;
     match validate(alloc, &tree, &[]) {
         Ok(conf) => Ok(conf),
         Err(_) => Err(AllocError),
     }
 }
 
-fn document(alloc: Global, paths: Paths) -> Result<Tree, AllocError>
-    ensures { IfOk result (λ tree. IsDocument (data_of tree)) }
-{
-    match read_tree(alloc, text(alloc, paths)?.as_slice())? {
-        Some(tree) => Ok(tree),
-        None => Err(AllocError),
-    }
-}
-
-fn text(alloc: Global, paths: Paths) -> Result<Vec<u8>, AllocError> {
-    let mut text = Vec::new(alloc);
-    text.extend_from_slice(b"{\"listeners\":{\"*:80\":{\"pass\":\"routes\"}},\"routes\":[")?;
+fn document(alloc: Global, paths: Paths) -> Result<Vec<u8>, AllocError> {
+    let mut text = Vec::from_slice(
+        alloc,
+        b"{\"listeners\":{\"*:80\":{\"pass\":\"routes\"}},\"routes\":[",
+    )?;
     for step in 0..STEPS {
-        if step > 0 {
-            text.push(b',')?;
-        }
         let host = host(alloc, step)?;
         let path = path(alloc, paths, step)?;
-        let item = format!(in alloc;
-            "{{\"action\":{{\"return\":200}},\"match\":{{\"host\":\"{host}\",\"uri\":\"{path}\"}}}}"
-        )?;
-        text.extend_from_slice(item.as_bytes())?;
+        append_step(&mut text, host.as_bytes(), path.as_bytes())?;
     }
+    text.pop();
     text.extend_from_slice(b"]}")?;
     Ok(text)
+}
+
+/// Puts the step for a host and a path behind the text, and a comma.
+fn append_step(text: &mut Vec<u8>, host: &[u8], path: &[u8]) -> Result<(), AllocError> {
+    text.extend_from_slice(b"{\"action\":{\"return\":200},\"match\":{\"host\":\"")?;
+    text.extend_from_slice(host)?;
+    text.extend_from_slice(b"\",\"uri\":\"")?;
+    text.extend_from_slice(path)?;
+    text.extend_from_slice(b"\"}},")
 }

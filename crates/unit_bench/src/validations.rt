@@ -1,30 +1,24 @@
 //! Validating a configuration of a megabyte, beside reading it as a document.
 ghost use Rattle.std.specs.Prelude.{◌≤◌, All, IfOk, length};
-ghost use Rattle.conf_tree.specs.Document.{IsDocument};
-ghost use Rattle.conf_tree.specs.View.{data_of};
 
-use crate::timing::{nanos_since, report};
-use conf_tree::{Tree, read_tree};
-use conf_validate::{Conf, validate};
+use crate::samples::{ReadTree, tree_of};
+use crate::timing::{Side, Timed, least_times, report};
+use conf_validate::validate;
 use std::alloc::{AllocError, Global};
 use std::io;
-use std::rt::Clock;
 use std::time::Instant;
 use unit_types::Bytes;
 
-/// Each time is the least of so many runs.
 const RUNS: u32 = 20;
 
 /// How many listeners, applications and routes of four steps the configuration has.
 const PARTS: u32 = 2000;
 
 /// Prints how many times as long as its reading the validation of a document takes.
-pub fn measure<R: Print + Clock + AllocGlobal>(rt: &R) -> io::Result<()> {
-    let text = document(rt.alloc())?;
-    let reads = read_time(rt, text.as_slice())?;
-    let tree = tree_of(rt.alloc(), text.as_slice())?;
-    let validations = validate_time(rt, &tree, &handlers(rt.alloc())?)?;
-    report(rt, "validate", validations, reads, 500)
+pub fn measure(rt: &HostRuntime) -> io::Result<()> {
+    let text = &document(rt.alloc())?;
+    let times = least_times(rt, RUNS, &Validate { text }, &ReadTree { text })?;
+    report(rt, "validate", 500, times)
 }
 
 fn handlers(alloc: Global) -> Result<[Bytes; 1], AllocError>
@@ -33,10 +27,27 @@ fn handlers(alloc: Global) -> Result<[Bytes; 1], AllocError>
     Ok([Bytes::copy_of(alloc, b"hello")?])
 }
 
+/// Validates what a text says as a document; only the validation is timed.
+#[derive(Drop)]
+struct Validate<'a> {
+    text: &'a [u8],
+}
+
+impl Side for Validate<'_> {
+    fn run(&self, rt: &HostRuntime) -> io::Result<Timed> {
+        let tree = tree_of(rt.alloc(), self.text)?;
+        let handlers = handlers(rt.alloc())?;
+        let start = Instant::now(rt)?;
+        let conf = validate(rt.alloc(), &tree, &handlers);
+        let run = Timed::since(rt, &start, conf.is_ok());
+        drop(conf);
+        run
+    }
+}
+
 /// A configuration of about a megabyte.
 fn document(alloc: Global) -> Result<Vec<u8>, AllocError> {
-    let mut text = Vec::new(alloc);
-    text.extend_from_slice(b"{\"applications\":{")?;
+    let mut text = Vec::from_slice(alloc, b"{\"applications\":{")?;
     append_parts(alloc, &mut text, Part::Application)?;
     text.extend_from_slice(b"},\"listeners\":{")?;
     append_parts(alloc, &mut text, Part::Listener)?;
@@ -81,61 +92,7 @@ fn listener(alloc: Global, number: u32) -> Result<String, AllocError> {
 
 /// A route of four steps: to an application, to itself, to another place, and to an application with what it changes.
 fn route(alloc: Global, number: u32) -> Result<String, AllocError> {
-    let first = format!(in alloc;
-        "{{\"action\":{{\"pass\":\"applications/a{number}\"}},\"match\":{{\"host\":[\"localhost\",\"*.example.com\"],\"method\":\"GET\",\"uri\":\"/hello/{number}/*\"}}}}"
-    )?;
-    let second = format!(in alloc;
-        "{{\"action\":{{\"pass\":\"routes/r{number}\"}},\"match\":{{\"arguments\":{{\"a\":\"!b\"}},\"source\":\"10.0.0.0/8\"}}}}"
-    )?;
-    let third = format!(in alloc;
-        "{{\"action\":{{\"location\":\"https://$host/{number}\",\"return\":301}},\"match\":{{\"headers\":{{\"X-A\":[\"a\",\"b*\"]}}}}}}"
-    )?;
-    let fourth = format!(in alloc;
-        "{{\"action\":{{\"pass\":\"applications/a{number}\",\"response_headers\":{{\"X-Route\":\"{number}\"}},\"rewrite\":\"/v1$uri\"}}}}"
-    )?;
-    format!(in alloc; "\"r{number}\":[{first},{second},{third},{fourth}]")
-}
-
-fn tree_of(alloc: Global, text: &[u8]) -> Result<Tree, AllocError>
-    ensures { IfOk result (λ tree. IsDocument (data_of tree)) }
-{
-    match read_tree(alloc, text)? {
-        Some(tree) => Ok(tree),
-        None => Err(AllocError),
-    }
-}
-
-fn conf_of(alloc: Global, tree: &Tree, handlers: &[Bytes]) -> Result<Conf, AllocError>
-    requires document { IsDocument (data_of tree.now) }
-    requires short { All (λ name. length name ≤ 255) handlers.now }
-{
-    match validate(alloc, tree, handlers) {
-        Ok(conf) => Ok(conf),
-        Err(_) => Err(AllocError),
-    }
-}
-
-fn read_time<R: Clock + AllocGlobal>(rt: &R, text: &[u8]) -> io::Result<u64> {
-    let mut least = u64::MAX;
-    for _ in 0..RUNS {
-        let start = Instant::now(rt)?;
-        let tree = tree_of(rt.alloc(), text)?;
-        least = least.min(nanos_since(rt, &start)?);
-        drop(tree);
-    }
-    Ok(least)
-}
-
-fn validate_time<R: Clock + AllocGlobal>(rt: &R, tree: &Tree, handlers: &[Bytes]) -> io::Result<u64>
-    requires document { IsDocument (data_of tree.now) }
-    requires short { All (λ name. length name ≤ 255) handlers.now }
-{
-    let mut least = u64::MAX;
-    for _ in 0..RUNS {
-        let start = Instant::now(rt)?;
-        let conf = conf_of(rt.alloc(), tree, handlers)?;
-        least = least.min(nanos_since(rt, &start)?);
-        drop(conf);
-    }
-    Ok(least)
+    format!(in alloc;
+        "\"r{number}\":[{{\"action\":{{\"pass\":\"applications/a{number}\"}},\"match\":{{\"host\":[\"localhost\",\"*.example.com\"],\"method\":\"GET\",\"uri\":\"/hello/{number}/*\"}}}},{{\"action\":{{\"pass\":\"routes/r{number}\"}},\"match\":{{\"arguments\":{{\"a\":\"!b\"}},\"source\":\"10.0.0.0/8\"}}}},{{\"action\":{{\"location\":\"https://$host/{number}\",\"return\":301}},\"match\":{{\"headers\":{{\"X-A\":[\"a\",\"b*\"]}}}}}},{{\"action\":{{\"pass\":\"applications/a{number}\",\"response_headers\":{{\"X-Route\":\"{number}\"}},\"rewrite\":\"/v1$uri\"}}}}]"
+    )
 }

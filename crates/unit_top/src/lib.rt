@@ -2,10 +2,7 @@
 #![tactic(auto)]
 
 mod command;
-mod input;
 mod once;
-mod output;
-mod stop;
 mod top;
 
 pub use top::unit_top;

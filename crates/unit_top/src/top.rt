@@ -1,19 +1,16 @@
 //! The top call: words and an input in, an output and a status out.
-ghost use Rattle.std.specs.Prelude.{◌≡◌, ◌≢◌, ◌⊎◌, ◌↔◌, map, string_bytes, ℕ, List, [], Some, None, Option};
+ghost use Rattle.std.specs.Prelude.{◌≡◌, ◌≢◌, ◌⊎◌, ◌↔◌, map, string_bytes, ℕ, List, [], Some, None, Option, IfErr};
 ghost use Rattle.unit_io.specs.Causes.{Rose};
+ghost use Rattle.unit_io.specs.Status.{status_of, status_in, line_of};
 ghost use Rattle.unit_io.specs.Told.{Adds, AddsFront};
 ghost use Rattle.http_front.specs.Session.{once_of};
 ghost use Rattle.unit_top.specs.Command.{Command, command_of};
-ghost use Rattle.unit_top.specs.Ends.{IsStatus, IsSilent, Leaves, HasCauses, IsTooLong, output_of};
-ghost use Rattle.unit_top.specs.Status.{status_of, status_in, line_of};
+ghost use Rattle.unit_top.specs.Ends.{IsStatus, IsSilent, Leaves, HasCauses, IsTooLong, IsCommandStop, output_of, line_of_status};
 
 use crate::command::once_handler;
-use crate::input::read_all;
 use crate::once::once;
-use crate::output::write_all;
-use crate::stop::Stop;
 use std::alloc::Global;
-use unit_io::{Sink, Source};
+use unit_io::{Sink, Source, Stop, read_all, write_all, write_line};
 use unit_types::Handlers;
 
 // One connection on the source, answered on the sink.
@@ -25,6 +22,7 @@ fn run_once<S: Source, K: Sink, H: Handlers>(
     handlers: &H,
 ) -> Result<(), Stop>
     ensures used { status_in result ≢ 2 }
+    ensures stops { IfErr result (λ stop. IsCommandStop stop) }
     ensures ended { status_in result ≡ 0 → (input : List ℕ) → S.left src.old ≡ Some input → S.left src.new ≡ Some [] }
     ensures output { (input : List ℕ) → S.left src.old ≡ Some input → Leaves (status_in result) (K.written out.old) (K.written out.new) (once_of H.reply_of handler.now input) }
     ensures silent { IsSilent (status_in result) → K.written out.new ≡ K.written out.old }
@@ -47,10 +45,10 @@ fn run_once<S: Source, K: Sink, H: Handlers>(
 // Tells why the command ended, as far as `err` takes it, and gives the status.
 fn tell<E: Sink>(err: &mut E, stop: Stop) -> u8
     ensures status { result ≡ status_of stop }
-    ensures line { (Rose (E.faults err.old) (E.faults err.new) → ⊥) → Adds (E.written err.old) (E.written err.new) (line_of (status_of stop)) }
-    ensures front { AddsFront (E.written err.old) (E.written err.new) (line_of (status_of stop)) }
+    ensures line { (Rose (E.faults err.old) (E.faults err.new) → ⊥) → Adds (E.written err.old) (E.written err.new) (line_of stop) }
+    ensures front { AddsFront (E.written err.old) (E.written err.new) (line_of stop) }
 {
-    let _ = write_all(err, stop.line());
+    let _ = write_line(err, stop);
     stop.status()
 }
 
@@ -85,8 +83,8 @@ pub fn unit_top<S: Source, K: Sink, E: Sink, H: Handlers>(
     ensures silent { IsSilent result → K.written out.new ≡ K.written out.old }
     ensures causes { HasCauses result (S.faults src.old) (S.faults src.new) (K.faults out.old) (K.faults out.new) }
     ensures too_long { (input : List ℕ) → S.left src.old ≡ Some input → IsTooLong result input }
-    ensures line { (Rose (E.faults err.old) (E.faults err.new) → ⊥) → Adds (E.written err.old) (E.written err.new) (line_of result) }
-    ensures line_front { AddsFront (E.written err.old) (E.written err.new) (line_of result) }
+    ensures line { (Rose (E.faults err.old) (E.faults err.new) → ⊥) → Adds (E.written err.old) (E.written err.new) (line_of_status result) }
+    ensures line_front { AddsFront (E.written err.old) (E.written err.new) (line_of_status result) }
 {
     let Some(handler) = once_handler(handlers.names(), words) else {
         return tell(err, Stop::Usage);

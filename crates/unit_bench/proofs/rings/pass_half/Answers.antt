@@ -1,4 +1,4 @@
-use Rattle.std.proofs.Common.{ℕ, ◌≡◌, ◌≤◌, ◌<◌, ◌+◌, inl, inr, sym, subst, arith}
+use Rattle.std.proofs.Common.{ℕ, inl, inr, sym, subst, arith}
 use Rattle.std.proofs.lemmas.Bool.{cases_eq}
 use Rattle.unit_model.specs.Sharing.{Holds}
 use Rattle.nncq_ring.specs.Seats.{knows}
