@@ -11,12 +11,12 @@ use Rattle.conf_tree.proofs.Order.{turned}
 use Rattle.conf_tree.specs.Answers.{Puts, Appends, Removes}
 use Rattle.conf_tree.specs.Document.{ComeAfter, IsDocument, AreDocuments, AreMembers}
 use Rattle.conf_tree.specs.Paths.{Change, changed, absent, no_array, child, index_of, set_item, remove_item, push_item, remove_member, array_or_absent, object_or_absent, put_child, remove_child, append_item, kept_in, change_child, put, append, remove}
-use Rattle.conf_tree.specs.declared.answers.Put.{Put}
-use Rattle.conf_tree.specs.declared.answers.Put.TheVariants as puts
-use Rattle.conf_tree.specs.declared.answers.Append.{Append}
-use Rattle.conf_tree.specs.declared.answers.Append.TheVariants as appends
-use Rattle.conf_tree.specs.declared.answers.Remove.{Remove}
-use Rattle.conf_tree.specs.declared.answers.Remove.TheVariants as removes
+use Rattle.conf_tree.specs.declared.outcomes.Put.{Put}
+use Rattle.conf_tree.specs.declared.outcomes.Put.TheVariants as puts
+use Rattle.conf_tree.specs.declared.outcomes.Append.{Append}
+use Rattle.conf_tree.specs.declared.outcomes.Append.TheVariants as appends
+use Rattle.conf_tree.specs.declared.outcomes.Remove.{Remove}
+use Rattle.conf_tree.specs.declared.outcomes.Remove.TheVariants as removes
 
 IfSome-map : {A B : Type 0} (P : A → Type 0) (Q : B → Type 0) (f : A → B) (o : Option A) → ((x : A) → P x → Q (f x)) → IfSome o P → IfSome (option_map f o) Q
 IfSome-map P Q f None g h = tt

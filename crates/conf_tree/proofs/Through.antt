@@ -9,12 +9,12 @@ use Rattle.conf_tree.specs.Answers.{Puts, Appends, Removes}
 use Rattle.conf_tree.specs.Paths.{changed, absent, index_of, child, set_item, array_or_absent, put_child, remove_child, change_child, put, append, remove}
 use Rattle.conf_tree.specs.Places.{HasNameAt}
 use Rattle.conf_tree.specs.View.{Named, data_of, list_data, members_of, named}
-use Rattle.conf_tree.specs.declared.answers.Put.{Put}
-use Rattle.conf_tree.specs.declared.answers.Put.TheVariants as puts
-use Rattle.conf_tree.specs.declared.answers.Append.{Append}
-use Rattle.conf_tree.specs.declared.answers.Append.TheVariants as appends
-use Rattle.conf_tree.specs.declared.answers.Remove.{Remove}
-use Rattle.conf_tree.specs.declared.answers.Remove.TheVariants as removes
+use Rattle.conf_tree.specs.declared.outcomes.Put.{Put}
+use Rattle.conf_tree.specs.declared.outcomes.Put.TheVariants as puts
+use Rattle.conf_tree.specs.declared.outcomes.Append.{Append}
+use Rattle.conf_tree.specs.declared.outcomes.Append.TheVariants as appends
+use Rattle.conf_tree.specs.declared.outcomes.Remove.{Remove}
+use Rattle.conf_tree.specs.declared.outcomes.Remove.TheVariants as removes
 use Rattle.conf_tree.specs.declared.tree.Tree.{Tree}
 use Rattle.conf_tree.specs.declared.tree.Member.{Member}
 use Rattle.conf_tree.proofs.Children.{child_item, child_member}

@@ -2,12 +2,12 @@
 use Rattle.std.specs.Prelude.{◌≡◌}
 use Rattle.serde_json.specs.Data.{Data}
 use Rattle.conf_tree.specs.Paths.{Change, changed, absent, no_array}
-use Rattle.conf_tree.specs.declared.answers.Put.{Put}
-use Rattle.conf_tree.specs.declared.answers.Put.TheVariants as put
-use Rattle.conf_tree.specs.declared.answers.Append.{Append}
-use Rattle.conf_tree.specs.declared.answers.Append.TheVariants as append
-use Rattle.conf_tree.specs.declared.answers.Remove.{Remove}
-use Rattle.conf_tree.specs.declared.answers.Remove.TheVariants as remove
+use Rattle.conf_tree.specs.declared.outcomes.Put.{Put}
+use Rattle.conf_tree.specs.declared.outcomes.Put.TheVariants as put
+use Rattle.conf_tree.specs.declared.outcomes.Append.{Append}
+use Rattle.conf_tree.specs.declared.outcomes.Append.TheVariants as append
+use Rattle.conf_tree.specs.declared.outcomes.Remove.{Remove}
+use Rattle.conf_tree.specs.declared.outcomes.Remove.TheVariants as remove
 
 abbrev pub Puts : Put → Change → Data → Data → Type 0
 Puts put.Done change old new = change ≡ changed new

@@ -6,8 +6,8 @@ ghost use Rattle.conf_tree.specs.Paths.{append as append_by_path, append_item};
 ghost use Rattle.conf_tree.specs.View.{data_of, list_data, map_data};
 ghost use Rattle.serde_json.specs.Data.{array, object};
 
-use crate::answers::Append;
 use crate::index::index_below;
+use crate::outcomes::Append;
 use crate::path::Path;
 use crate::tree::{Tree, TreeList, TreeMap};
 use std::alloc::AllocError;
@@ -20,7 +20,9 @@ use unit_types::Bytes;
 pub fn append(tree: &mut Tree, path: &Path, value: Tree) -> Result<Append, AllocError>
     requires tree { IsDocument (data_of tree.old) }
     requires value { IsDocument (data_of value) }
-    ensures ok { IfOk result (λ answer. Appends answer (append_by_path path.now (data_of value) (data_of tree.old)) (data_of tree.old) (data_of tree.new)) }
+    ensures ok { IfOk result (λ answer. Appends answer
+        (append_by_path path.now (data_of value) (data_of tree.old)) (data_of tree.old)
+        (data_of tree.new)) }
     ensures err { OnErr result (data_of tree.new ≡ data_of tree.old) }
     ensures document { IsDocument (data_of tree.new) }
 {
@@ -30,7 +32,9 @@ pub fn append(tree: &mut Tree, path: &Path, value: Tree) -> Result<Append, Alloc
 #[cycle(append_along)]
 fn append_along(tree: &mut Tree, keys: &[Bytes], value: Tree) -> Result<Append, AllocError>
     requires { IsDocument (data_of tree.old) }
-    ensures ok { IfOk result (λ answer. Appends answer (append_by_path keys.now (data_of value) (data_of tree.old)) (data_of tree.old) (data_of tree.new)) }
+    ensures ok { IfOk result (λ answer. Appends answer
+        (append_by_path keys.now (data_of value) (data_of tree.old)) (data_of tree.old)
+        (data_of tree.new)) }
     ensures err { OnErr result (data_of tree.new ≡ data_of tree.old) }
 {
     let Some((key, rest)) = keys.split_first() else {
@@ -51,7 +55,9 @@ fn append_in_list(
     value: Tree,
 ) -> Result<Append, AllocError>
     requires { AreDocuments (list_data items.old.items) }
-    ensures ok { IfOk result (λ answer. Appends answer (append_by_path (key.now ∷ rest.now) (data_of value) (array (list_data items.old.items))) (array (list_data items.old.items)) (array (list_data items.new.items))) }
+    ensures ok { IfOk result (λ answer. Appends answer
+        (append_by_path (key.now ∷ rest.now) (data_of value) (array (list_data items.old.items)))
+        (array (list_data items.old.items)) (array (list_data items.new.items))) }
     ensures err { OnErr result (list_data items.new.items ≡ list_data items.old.items) }
 {
     match index_below(key.as_slice(), items.len()) {
@@ -68,7 +74,9 @@ fn append_in_map(
     value: Tree,
 ) -> Result<Append, AllocError>
     requires { AreMembers (map_data members.old) }
-    ensures ok { IfOk result (λ answer. Appends answer (append_by_path (key.now ∷ rest.now) (data_of value) (object (map_data members.old))) (object (map_data members.old)) (object (map_data members.new))) }
+    ensures ok { IfOk result (λ answer. Appends answer
+        (append_by_path (key.now ∷ rest.now) (data_of value) (object (map_data members.old)))
+        (object (map_data members.old)) (object (map_data members.new))) }
     ensures err { OnErr result (map_data members.new ≡ map_data members.old) }
 {
     match members.find(key.as_slice()) {
@@ -79,7 +87,8 @@ fn append_in_map(
 
 /// Puts a value behind the items of this one.
 fn push_item(tree: &mut Tree, value: Tree) -> Result<Append, AllocError>
-    ensures ok { IfOk result (λ answer. Appends answer (append_item (data_of value) (data_of tree.old)) (data_of tree.old) (data_of tree.new)) }
+    ensures ok { IfOk result (λ answer. Appends answer
+        (append_item (data_of value) (data_of tree.old)) (data_of tree.old) (data_of tree.new)) }
     ensures err { OnErr result (data_of tree.new ≡ data_of tree.old) }
 {
     match tree {
@@ -89,7 +98,9 @@ fn push_item(tree: &mut Tree, value: Tree) -> Result<Append, AllocError>
 }
 
 fn push(items: &mut TreeList, value: Tree) -> Result<Append, AllocError>
-    ensures ok { IfOk result (λ answer. Appends answer (append_item (data_of value) (array (list_data items.old.items))) (array (list_data items.old.items)) (array (list_data items.new.items))) }
+    ensures ok { IfOk result (λ answer. Appends answer
+        (append_item (data_of value) (array (list_data items.old.items)))
+        (array (list_data items.old.items)) (array (list_data items.new.items))) }
     ensures err { OnErr result (list_data items.new.items ≡ list_data items.old.items) }
 {
     items.push(value)?;

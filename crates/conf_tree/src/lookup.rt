@@ -11,7 +11,8 @@ use crate::tree::Tree;
 /// The value at this path; None exactly where there is none. It takes no memory.
 pub fn get<'a>(tree: &'a Tree, path: &Path) -> Option<&'a Tree>
     requires { IsDocument (data_of tree.now) }
-    ensures value { option_map (λ t. data_of t.now) result ≡ value_by_path path.now (data_of tree.now) }
+    ensures value { option_map (λ t. data_of t.now) result
+        ≡ value_by_path path.now (data_of tree.now) }
     ensures document { IfSome result (λ t. IsDocument (data_of t.now)) }
 {
     let mut here = tree;

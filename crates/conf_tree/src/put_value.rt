@@ -8,8 +8,8 @@ ghost use Rattle.conf_tree.specs.View.{data_of, list_data, map_data, named};
 ghost use Rattle.conf_tree.specs.declared.tree.TreeMap.{out-TreeMap};
 ghost use Rattle.serde_json.specs.Data.{array, object, put as put_member};
 
-use crate::answers::Put;
 use crate::index::index_below;
+use crate::outcomes::Put;
 use crate::path::Path;
 use crate::tree::{Member, Tree, TreeList, TreeMap};
 use std::alloc::{AllocError, Global};
@@ -23,7 +23,9 @@ use unit_types::Bytes;
 pub fn put(alloc: Global, tree: &mut Tree, path: &Path, value: Tree) -> Result<Put, AllocError>
     requires tree { IsDocument (data_of tree.old) }
     requires value { IsDocument (data_of value) }
-    ensures ok { IfOk result (λ answer. Puts answer (put_by_path path.now (data_of value) (data_of tree.old)) (data_of tree.old) (data_of tree.new)) }
+    ensures ok { IfOk result (λ answer. Puts answer
+        (put_by_path path.now (data_of value) (data_of tree.old)) (data_of tree.old)
+        (data_of tree.new)) }
     ensures err { OnErr result (data_of tree.new ≡ data_of tree.old) }
     ensures document { IsDocument (data_of tree.new) }
 {
@@ -33,7 +35,9 @@ pub fn put(alloc: Global, tree: &mut Tree, path: &Path, value: Tree) -> Result<P
 #[cycle(put_along)]
 fn put_along(alloc: Global, tree: &mut Tree, keys: &[Bytes], value: Tree) -> Result<Put, AllocError>
     requires { IsDocument (data_of tree.old) }
-    ensures ok { IfOk result (λ answer. Puts answer (put_by_path keys.now (data_of value) (data_of tree.old)) (data_of tree.old) (data_of tree.new)) }
+    ensures ok { IfOk result (λ answer. Puts answer
+        (put_by_path keys.now (data_of value) (data_of tree.old)) (data_of tree.old)
+        (data_of tree.new)) }
     ensures err { OnErr result (data_of tree.new ≡ data_of tree.old) }
 {
     let Some((key, rest)) = keys.split_first() else {
@@ -56,7 +60,9 @@ fn put_in_list(
     value: Tree,
 ) -> Result<Put, AllocError>
     requires { AreDocuments (list_data items.old.items) }
-    ensures ok { IfOk result (λ answer. Puts answer (put_by_path (key.now ∷ rest.now) (data_of value) (array (list_data items.old.items))) (array (list_data items.old.items)) (array (list_data items.new.items))) }
+    ensures ok { IfOk result (λ answer. Puts answer
+        (put_by_path (key.now ∷ rest.now) (data_of value) (array (list_data items.old.items)))
+        (array (list_data items.old.items)) (array (list_data items.new.items))) }
     ensures err { OnErr result (list_data items.new.items ≡ list_data items.old.items) }
 {
     match index_below(key.as_slice(), items.len()) {
@@ -74,7 +80,9 @@ fn put_in_map(
     value: Tree,
 ) -> Result<Put, AllocError>
     requires { AreMembers (map_data members.old) }
-    ensures ok { IfOk result (λ answer. Puts answer (put_by_path (key.now ∷ rest.now) (data_of value) (object (map_data members.old))) (object (map_data members.old)) (object (map_data members.new))) }
+    ensures ok { IfOk result (λ answer. Puts answer
+        (put_by_path (key.now ∷ rest.now) (data_of value) (object (map_data members.old)))
+        (object (map_data members.old)) (object (map_data members.new))) }
     ensures err { OnErr result (map_data members.new ≡ map_data members.old) }
 {
     match members.find(key.as_slice()) {
@@ -97,7 +105,9 @@ fn insert_member(
     value: Tree,
 ) -> Result<Put, AllocError>
     requires { IsGapAt key.now (map named (out-TreeMap members.old).members.items) index }
-    ensures ok { IfOk result (λ answer. Puts answer (changed (object (put_member key.now (data_of value) (map_data members.old)))) (object (map_data members.old)) (object (map_data members.new))) }
+    ensures ok { IfOk result (λ answer. Puts answer
+        (changed (object (put_member key.now (data_of value) (map_data members.old))))
+        (object (map_data members.old)) (object (map_data members.new))) }
     ensures err { OnErr result (map_data members.new ≡ map_data members.old) }
 {
     let key = Bytes::copy_of(alloc, key.as_slice())?;

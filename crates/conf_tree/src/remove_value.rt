@@ -6,8 +6,8 @@ ghost use Rattle.conf_tree.specs.Paths.{remove as remove_by_path};
 ghost use Rattle.conf_tree.specs.View.{data_of, list_data, map_data};
 ghost use Rattle.serde_json.specs.Data.{array, object};
 
-use crate::answers::Remove;
 use crate::index::index_below;
+use crate::outcomes::Remove;
 use crate::path::Path;
 use crate::tree::{Tree, TreeList, TreeMap};
 use unit_types::Bytes;
@@ -17,7 +17,8 @@ use unit_types::Bytes;
 /// `Absent` exactly where there is no value at the path; the tree is then as before. It takes no memory.
 pub fn remove(tree: &mut Tree, path: &Path) -> Remove
     requires { IsDocument (data_of tree.old) }
-    ensures answer { Removes result (remove_by_path path.now (data_of tree.old)) (data_of tree.old) (data_of tree.new) }
+    ensures answer { Removes result (remove_by_path path.now (data_of tree.old)) (data_of tree.old)
+        (data_of tree.new) }
     ensures document { IsDocument (data_of tree.new) }
 {
     let Some((key, rest)) = path.as_slice().split_first() else {
@@ -30,7 +31,8 @@ pub fn remove(tree: &mut Tree, path: &Path) -> Remove
 #[cycle(remove_along)]
 fn remove_along(tree: &mut Tree, key: &Bytes, rest: &[Bytes]) -> Remove
     requires { IsDocument (data_of tree.old) }
-    ensures { Removes result (remove_by_path (key.now ∷ rest.now) (data_of tree.old)) (data_of tree.old) (data_of tree.new) }
+    ensures { Removes result (remove_by_path (key.now ∷ rest.now) (data_of tree.old))
+        (data_of tree.old) (data_of tree.new) }
 {
     match tree {
         Tree::List(items) => remove_in_list(items, key, rest),
@@ -42,7 +44,9 @@ fn remove_along(tree: &mut Tree, key: &Bytes, rest: &[Bytes]) -> Remove
 #[cycle(remove_along)]
 fn remove_in_list(items: &mut TreeList, key: &Bytes, rest: &[Bytes]) -> Remove
     requires { AreDocuments (list_data items.old.items) }
-    ensures { Removes result (remove_by_path (key.now ∷ rest.now) (array (list_data items.old.items))) (array (list_data items.old.items)) (array (list_data items.new.items)) }
+    ensures { Removes result (remove_by_path (key.now ∷ rest.now)
+        (array (list_data items.old.items))) (array (list_data items.old.items))
+        (array (list_data items.new.items)) }
 {
     let Some(index) = index_below(key.as_slice(), items.len()) else {
         return Remove::Absent;
@@ -59,7 +63,8 @@ fn remove_in_list(items: &mut TreeList, key: &Bytes, rest: &[Bytes]) -> Remove
 #[cycle(remove_along)]
 fn remove_in_map(members: &mut TreeMap, key: &Bytes, rest: &[Bytes]) -> Remove
     requires { AreMembers (map_data members.old) }
-    ensures { Removes result (remove_by_path (key.now ∷ rest.now) (object (map_data members.old))) (object (map_data members.old)) (object (map_data members.new)) }
+    ensures { Removes result (remove_by_path (key.now ∷ rest.now) (object (map_data members.old)))
+        (object (map_data members.old)) (object (map_data members.new)) }
 {
     let Ok(index) = members.find(key.as_slice()) else {
         return Remove::Absent;

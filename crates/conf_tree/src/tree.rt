@@ -102,7 +102,8 @@ impl TreeMap {
     /// The value of the member of this name; None exactly where there is none. It takes no memory.
     pub fn get(&self, key: &[u8]) -> Option<&Tree>
         requires { AreMembers (map_data self.now) }
-        ensures value { option_map (λ t. data_of t.now) result ≡ get_member key.now (map_data self.now) }
+        ensures value { option_map (λ t. data_of t.now) result
+            ≡ get_member key.now (map_data self.now) }
         ensures document { IfSome result (λ t. IsDocument (data_of t.now)) }
     {
         match self.find(key) {

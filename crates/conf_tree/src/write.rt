@@ -20,7 +20,8 @@ use unit_types::Bytes;
 pub fn write_tree(alloc: Global, tree: &Tree) -> Result<Bytes, AllocError>
     requires { IsDocument (data_of tree.now) }
     ensures text { IfOk result (λ text. text ≡ compact_text (data_of tree.now)) }
-    ensures reads_back { IfOk result (λ text. IsReadable (data_of tree.now) → document_of text ≡ Some (data_of tree.now)) }
+    ensures reads_back { IfOk result
+        (λ text. IsReadable (data_of tree.now) → document_of text ≡ Some (data_of tree.now)) }
 {
     let mut out = Writer::new(Vec::with_capacity(alloc, 128)?);
     write(tree, &mut out)?;
@@ -30,7 +31,8 @@ pub fn write_tree(alloc: Global, tree: &Tree) -> Result<Bytes, AllocError>
 #[cycle(write)]
 fn write(tree: &Tree, out: &mut Writer) -> Result<(), AllocError>
     requires { IsDocument (data_of tree.now) }
-    ensures tokens { OnOk result (out.new.tokens ≡ out.old.tokens ++ json_tokens (outline (data_of tree.now))) }
+    ensures tokens { OnOk result
+        (out.new.tokens ≡ out.old.tokens ++ json_tokens (outline (data_of tree.now))) }
     ensures before { out.new.before ≡ out.old.before }
 {
     match tree {
@@ -46,7 +48,8 @@ fn write(tree: &Tree, out: &mut Writer) -> Result<(), AllocError>
 #[cycle(write)]
 fn write_items(items: &TreeList, out: &mut Writer) -> Result<(), AllocError>
     requires { AreDocuments (list_data items.now.items) }
-    ensures tokens { OnOk result (out.new.tokens ≡ out.old.tokens ++ json_tokens (json.array (items_outline (list_data items.now.items)))) }
+    ensures tokens { OnOk result (out.new.tokens
+        ≡ out.old.tokens ++ json_tokens (json.array (items_outline (list_data items.now.items)))) }
     ensures before { out.new.before ≡ out.old.before }
 {
     out.begin_array()?;
@@ -59,7 +62,8 @@ fn write_items(items: &TreeList, out: &mut Writer) -> Result<(), AllocError>
 #[cycle(write)]
 fn write_members(map: &TreeMap, out: &mut Writer) -> Result<(), AllocError>
     requires { AreMembers (map_data map.now) }
-    ensures tokens { OnOk result (out.new.tokens ≡ out.old.tokens ++ json_tokens (json.object (members_outline (map_data map.now)))) }
+    ensures tokens { OnOk result (out.new.tokens
+        ≡ out.old.tokens ++ json_tokens (json.object (members_outline (map_data map.now)))) }
     ensures before { out.new.before ≡ out.old.before }
 {
     out.begin_object()?;
@@ -71,7 +75,8 @@ fn write_members(map: &TreeMap, out: &mut Writer) -> Result<(), AllocError>
 }
 
 fn write_integer(integer: i128, out: &mut Writer) -> Result<(), AllocError>
-    ensures tokens { OnOk result (out.new.tokens ≡ out.old.tokens ++ number (signed_decimal integer) ∷ []) }
+    ensures tokens { OnOk result
+        (out.new.tokens ≡ out.old.tokens ++ number (signed_decimal integer) ∷ []) }
     ensures before { out.new.before ≡ out.old.before }
 {
     let mut buffer = itoa::Buffer::new();

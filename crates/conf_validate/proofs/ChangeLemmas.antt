@@ -1,5 +1,5 @@
 -- The names of the header fields that a step changes.
-use Rattle.std.proofs.Common.{◌≡◌, ℕ, Bool, true, false, not, ◌&&◌, List, [], ◌∷◌, ◌++◌, map, Option, Some, None, IsTrue, All, refl}
+use Rattle.std.proofs.Common.{◌≡◌, ℕ, not, ◌&&◌, List, [], ◌∷◌, ◌++◌, map, Option, Some, None, IsTrue, All, refl}
 use Rattle.std.proofs.lemmas.List.Elements.{All-append, All-cons, All-nil}
 use Rattle.std.specs.List.{flat_map}
 use Rattle.serde_json.specs.Data.{Data, null, boolean, number, string, array, object, Items, no_items, item, Members, no_members, member}
@@ -7,7 +7,8 @@ use Rattle.serde_json.specs.Find.{as_str, get}
 use Rattle.conf_tree.specs.Document.{AreDocuments, AreMembers, ComeAfter, IsDocument}
 use Rattle.conf_validate.specs.Configuration.{changes_in, changes_list, items_list, items_of, part, steps_of_routes, values_list}
 use Rattle.conf_validate.specs.Forms.{is_again, is_header_name}
-use Rattle.conf_validate.specs.Kept.{Ascends}
+use Rattle.unit_types.specs.Names.{Ascends}
+use Rattle.unit_types.proofs.NameLemmas.{ascends-cons, ascends-nil}
 use Rattle.conf_validate.specs.Table.{Entry, whole_table}
 use Rattle.conf_validate.specs.Valid.{Context, members_fault}
 use Rattle.conf_validate.specs.declared.place.Names.TheVariants as names
@@ -35,16 +36,16 @@ changes_after k no_members h = All-nil (IsBefore k)
 changes_after k (member l d ms) h = All-cons (IsBefore k) l (map (λ (change : Change). change.0) (changes_list ms)) h.0 (changes_after k ms h.1)
 
 changes_list_ascend : (ms : Members) → AreMembers ms → Ascends (map (λ (change : Change). change.0) (changes_list ms))
-changes_list_ascend no_members h = tt
-changes_list_ascend (member k d ms) h = (changes_after k ms h.2, changes_list_ascend ms h.3)
+changes_list_ascend no_members h = ascends-nil
+changes_list_ascend (member k d ms) h = ascends-cons k (map (λ (change : Change). change.0) (changes_list ms)) (changes_after k ms h.2) (changes_list_ascend ms h.3)
 
 changes_ascend : (o : Option Data) → IsTree o → Ascends (map (λ (change : Change). change.0) (changes_in o))
-changes_ascend None h = tt
-changes_ascend (Some null) h = tt
-changes_ascend (Some (boolean b)) h = tt
-changes_ascend (Some (number n)) h = tt
-changes_ascend (Some (string s)) h = tt
-changes_ascend (Some (array ds)) h = tt
+changes_ascend None h = ascends-nil
+changes_ascend (Some null) h = ascends-nil
+changes_ascend (Some (boolean b)) h = ascends-nil
+changes_ascend (Some (number n)) h = ascends-nil
+changes_ascend (Some (string s)) h = ascends-nil
+changes_ascend (Some (array ds)) h = ascends-nil
 changes_ascend (Some (object ms)) h = changes_list_ascend ms (h (object ms) refl)
 
 part_tree : (k : List ℕ) (o : Option Data) → IsTree o → IsTree (part k o)

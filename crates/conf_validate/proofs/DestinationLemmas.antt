@@ -1,7 +1,7 @@
 -- The names of a document's parts ascend, and what passes can name is there.
 use Rattle.std.proofs.Common.{◌≡◌, ℕ, suc, ◌+◌, ◌≤◌, List, [], ◌∷◌, ◌++◌, length, map, codes, Option, Some, None, All, Less, refl, sym, ap, ◌∙◌, subst, arith}
 use Rattle.std.proofs.lemmas.List.{length-append, length-map, map-append}
-use Rattle.std.proofs.lemmas.List.Elements.{All-append, All-cons, All-head, All-nil, All-tail}
+use Rattle.std.proofs.lemmas.List.Elements.{All-append, All-cons, All-nil}
 use Rattle.std.specs.Cmp.Lexicographic.{slice_cmp}
 use Rattle.std.specs.List.{flat_map}
 use Rattle.std.specs.Ordering.{nat_cmp}
@@ -11,7 +11,9 @@ use Rattle.conf_tree.proofs.Documents.{child_document}
 use Rattle.conf_tree.specs.Document.{AreMembers, ComeAfter, IsDocument}
 use Rattle.conf_tree.specs.View.{Named}
 use Rattle.conf_validate.specs.Configuration.{Configuration, application_destinations, application_of, applications_of, configuration_of, destinations_of, destinations_of_routes, items_list, items_of, list_in, listener_of, listeners_of, members_in, members_list, members_of, route_destinations, step_of, steps_of_routes, values_list}
-use Rattle.conf_validate.specs.Kept.{Ascends, IsThere}
+use Rattle.unit_types.specs.Names.{Ascends}
+use Rattle.unit_types.proofs.NameLemmas.{ascends-append, ascends-cons, ascends-nil}
+use Rattle.conf_validate.specs.Kept.{IsThere}
 use Rattle.conf_validate.specs.declared.conf.Application.{Application}
 use Rattle.conf_validate.specs.declared.conf.Destination.{Destination}
 use Rattle.conf_validate.specs.declared.conf.Goal.TheVariants as goal
@@ -33,8 +35,8 @@ come_after k no_members h = All-nil (IsBefore k)
 come_after k (member l d ms) h = All-cons (IsBefore k) l (names_of (members_list ms)) h.0 (come_after k ms h.1)
 
 names_ascend : (ms : Members) → AreMembers ms → Ascends (names_of (members_list ms))
-names_ascend no_members h = tt
-names_ascend (member k d ms) h = (come_after k ms h.2, names_ascend ms h.3)
+names_ascend no_members h = ascends-nil
+names_ascend (member k d ms) h = ascends-cons k (names_of (members_list ms)) (come_after k ms h.2) (names_ascend ms h.3)
 
 pub get_document : (k : List ℕ) (d e : Data) → IsDocument d → get k d ≡ Some e → IsDocument e
 get_document k null e h at = absurd (cc at)
@@ -49,12 +51,12 @@ abbrev pub IsTree : Option Data → Type 0
 IsTree o = (d : Data) → o ≡ Some d → IsDocument d
 
 member_names_ascend : (o : Option Data) → IsTree o → Ascends (names_of (list_in members_of o))
-member_names_ascend None h = tt
-member_names_ascend (Some null) h = tt
-member_names_ascend (Some (boolean b)) h = tt
-member_names_ascend (Some (number n)) h = tt
-member_names_ascend (Some (string s)) h = tt
-member_names_ascend (Some (array ds)) h = tt
+member_names_ascend None h = ascends-nil
+member_names_ascend (Some null) h = ascends-nil
+member_names_ascend (Some (boolean b)) h = ascends-nil
+member_names_ascend (Some (number n)) h = ascends-nil
+member_names_ascend (Some (string s)) h = ascends-nil
+member_names_ascend (Some (array ds)) h = ascends-nil
 member_names_ascend (Some (object ms)) h = names_ascend ms (h (object ms) refl)
 
 -- what is made of each member has its name
@@ -82,16 +84,17 @@ applications_after k app (member l d ms) h =
     All-cons (IsBefore (codes "applications/" ++ k)) (codes "applications/" ++ l) (destination_names (application_destinations (suc app) (members_list ms))) h.0 (applications_after k (suc app) ms h.1)
 
 applications_ascend : (app : ℕ) (ms : Members) → AreMembers ms → Ascends (destination_names (application_destinations app (members_list ms)))
-applications_ascend app no_members h = tt
-applications_ascend app (member k d ms) h = (applications_after k (suc app) ms h.2, applications_ascend (suc app) ms h.3)
+applications_ascend app no_members h = ascends-nil
+applications_ascend app (member k d ms) h =
+    ascends-cons (codes "applications/" ++ k) (destination_names (application_destinations (suc app) (members_list ms))) (applications_after k (suc app) ms h.2) (applications_ascend (suc app) ms h.3)
 
 all_applications_ascend : (o : Option Data) → IsTree o → Ascends (destination_names (application_destinations 0 (list_in members_of o)))
-all_applications_ascend None h = tt
-all_applications_ascend (Some null) h = tt
-all_applications_ascend (Some (boolean b)) h = tt
-all_applications_ascend (Some (number n)) h = tt
-all_applications_ascend (Some (string s)) h = tt
-all_applications_ascend (Some (array ds)) h = tt
+all_applications_ascend None h = ascends-nil
+all_applications_ascend (Some null) h = ascends-nil
+all_applications_ascend (Some (boolean b)) h = ascends-nil
+all_applications_ascend (Some (number n)) h = ascends-nil
+all_applications_ascend (Some (string s)) h = ascends-nil
+all_applications_ascend (Some (array ds)) h = ascends-nil
 all_applications_ascend (Some (object ms)) h = applications_ascend 0 ms (h (object ms) refl)
 
 routes_after : (k : List ℕ) (first : ℕ) (ms : Members) → ComeAfter k ms → All (IsBefore (codes "routes/" ++ k)) (destination_names (route_destinations first (members_list ms)))
@@ -100,16 +103,18 @@ routes_after k first (member l d ms) h =
     All-cons (IsBefore (codes "routes/" ++ k)) (codes "routes/" ++ l) (destination_names (route_destinations (first + length (items_of d)) (members_list ms))) h.0 (routes_after k (first + length (items_of d)) ms h.1)
 
 routes_ascend : (first : ℕ) (ms : Members) → AreMembers ms → Ascends (destination_names (route_destinations first (members_list ms)))
-routes_ascend first no_members h = tt
-routes_ascend first (member k d ms) h = (routes_after k (first + length (items_of d)) ms h.2, routes_ascend (first + length (items_of d)) ms h.3)
+routes_ascend first no_members h = ascends-nil
+routes_ascend first (member k d ms) h =
+    let next = first + length (items_of d) in
+    ascends-cons (codes "routes/" ++ k) (destination_names (route_destinations next (members_list ms))) (routes_after k next ms h.2) (routes_ascend next ms h.3)
 
 all_routes_ascend : (o : Option Data) → IsTree o → Ascends (destination_names (list_in destinations_of_routes o))
-all_routes_ascend None h = tt
-all_routes_ascend (Some null) h = tt
-all_routes_ascend (Some (boolean b)) h = tt
-all_routes_ascend (Some (number n)) h = tt
-all_routes_ascend (Some (string s)) h = tt
-all_routes_ascend (Some (array ds)) h = (All-nil (IsBefore (codes "routes")), tt)
+all_routes_ascend None h = ascends-nil
+all_routes_ascend (Some null) h = ascends-nil
+all_routes_ascend (Some (boolean b)) h = ascends-nil
+all_routes_ascend (Some (number n)) h = ascends-nil
+all_routes_ascend (Some (string s)) h = ascends-nil
+all_routes_ascend (Some (array ds)) h = ascends-cons (codes "routes") [] (All-nil (IsBefore (codes "routes"))) ascends-nil
 all_routes_ascend (Some (object ms)) h = routes_ascend 0 ms (h (object ms) refl)
 
 -- the text begins with the byte
@@ -141,18 +146,13 @@ first_before [] y h k = absurd h
 first_before (a ∷ xs) [] h k = absurd k
 first_before (a ∷ xs) (b ∷ ys) h k = rw (h, k) refl
 
-ascend_both : (xs ys : List (List ℕ)) → Ascends xs → Ascends ys → All (λ x. All (IsBefore x) ys) xs → Ascends (xs ++ ys)
-ascend_both [] ys h k between = k
-ascend_both (x ∷ xs) ys h k between =
-    (All-append (IsBefore x) xs ys h.0 (All-head (λ (z : List ℕ). All (IsBefore z) ys) x xs between), ascend_both xs ys h.1 k (All-tail (λ (z : List ℕ). All (IsBefore z) ys) x xs between))
-
 pub destination_names_ascend : (document : Data) → IsDocument document → Ascends (map (λ d. d.name) (destinations_of document))
 destination_names_ascend document h =
     let apps = application_destinations 0 (members_in (codes "applications") document) in
     let o = get (codes "routes") document in
     let routes = list_in destinations_of_routes o in
     subst Ascends (sym (map-append (λ (d : Destination). d.name) apps routes))
-    (ascend_both (destination_names apps) (destination_names routes)
+    (ascends-append (destination_names apps) (destination_names routes)
     (all_applications_ascend (get (codes "applications") document) (λ d at. get_document (codes "applications") document d h at))
     (all_routes_ascend o (λ d at. get_document (codes "routes") document d h at))
     (λ i d lt j e within. first_before _ _ (applications_begin 0 (members_in (codes "applications") document) i d lt) (all_routes_begin o j e within)))

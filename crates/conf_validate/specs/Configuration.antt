@@ -3,6 +3,7 @@ use Rattle.std.specs.Prelude.{ℕ, suc, ◌+◌, ◌^◌, ◌==◌, nat_lt, nat_
 use Rattle.std.specs.List.{flat_map, list_any}
 use Rattle.std.specs.Option.{option_to_list, unwrap_or}
 use Rattle.std.specs.Str.{bytes_eq, str_to_ascii_lowercase}
+use Rattle.unit_types.specs.Names.{index_of_name}
 use Rattle.pattern_addr.specs.AddressPattern.{AddressPattern, address_pattern_of}
 use Rattle.serde_json.specs.Data.{Num, unsigned, negative, float, Data, null, boolean, number, string, array, object, Items, no_items, item, Members, no_members, member}
 use Rattle.serde_json.specs.Find.{get, as_str}
@@ -289,8 +290,7 @@ configuration_of document = record {
 
 -- the index of the listener of this name
 abbrev pub listener_index : List ℕ → List Listener → Option ℕ
-listener_index name [] = None
-listener_index name (l ∷ ls) = if bytes_eq l.name name then Some 0 else option_map suc (listener_index name ls)
+listener_index name listeners = index_of_name (λ (l : Listener). l.name) name listeners
 
 -- where the destination of this name leads
 abbrev pub goal_named : List ℕ → List Destination → Option Goal

@@ -1,10 +1,12 @@
 -- The forms of the names and texts of a configuration.
-use Rattle.std.specs.Prelude.{ℕ, zero, suc, Bool, true, false, not, ◌&&◌, ◌||◌, ◌==◌, nat_le, nat_lt, nat_eq, List, [], ◌∷◌, length, codes, Option, Some, None}
+use Rattle.std.specs.Prelude.{ℕ, zero, suc, Bool, true, false, not, ◌&&◌, ◌||◌, ◌==◌, nat_le, nat_eq, List, [], ◌∷◌, length, codes, Option, Some, None}
 use Rattle.std.specs.List.{list_any, list_all, starts_with}
 use Rattle.std.specs.Option.{is_some}
 use Rattle.std.specs.Str.{bytes_eq, str_to_ascii_lowercase}
 use Rattle.unit_types.specs.Token.{is_tchar, is_value_byte}
-use Rattle.pattern_addr.specs.AddressPattern.{number_of, cut, address_pattern_of}
+use Rattle.unit_types.specs.Numeral.{plain_decimal_within}
+use Rattle.unit_types.specs.Text.{cut}
+use Rattle.pattern_addr.specs.AddressPattern.{address_pattern_of}
 use Rattle.path_normal.specs.Variables.{variable_count}
 use Rattle.conf_validate.specs.declared.place.Form.{Form}
 use Rattle.conf_validate.specs.declared.place.Form.TheVariants as form
@@ -14,7 +16,7 @@ use Rattle.conf_validate.specs.declared.place.Form.TheVariants as form
 
 -- digits without a leading zero, of a value of at most `limit`
 abbrev pub is_number : ℕ → List ℕ → Bool
-is_number limit text = is_some (number_of limit text) && not (starts_with nat_eq text (48 ∷ []) && nat_lt 1 (length text))
+is_number limit text = is_some (plain_decimal_within limit text)
 
 -- both parts of a text that was cut pass their tests
 abbrev pub are_both : (List ℕ → Bool) → (List ℕ → Bool) → Option (List ℕ × List ℕ) → Bool

@@ -1,9 +1,7 @@
 -- What each configuration keeps: the ranges of its numbers, the forms of its texts, the order of its names, and that what
 -- can be named is there.
-use Rattle.std.specs.Prelude.{◌≡◌, ℕ, ◌+◌, ◌<◌, ◌≤◌, List, [], ◌∷◌, length, map, All, Option, IfSome, IsTrue, ⊤}
-use Rattle.std.specs.Cmp.Lexicographic.{slice_cmp}
-use Rattle.std.specs.Ordering.{nat_cmp}
-use Rattle.std.specs.declared.cmp.Ordering.TheVariants.{Less}
+use Rattle.std.specs.Prelude.{◌≡◌, ℕ, ◌+◌, ◌<◌, ◌≤◌, List, [], ◌∷◌, length, map, All, Option, IfSome, IsTrue}
+use Rattle.unit_types.specs.Names.{AscendsBy}
 use Rattle.conf_validate.specs.Configuration.{Configuration, action_goal, plain_goal}
 use Rattle.conf_validate.specs.Forms.{has_variables, is_header_name, is_location, is_log_format, is_rewrite, is_text_pattern}
 use Rattle.conf_validate.specs.declared.conf.Action.{Action}
@@ -14,11 +12,6 @@ use Rattle.conf_validate.specs.declared.conf.Goal.TheVariants as goal
 use Rattle.conf_validate.specs.declared.conf.Step.{Step}
 use Rattle.conf_validate.specs.declared.matching.Match.{Match}
 use Rattle.conf_validate.specs.declared.matching.NamedPatterns.{NamedPatterns}
-
--- each name comes before all that follow it, byte by byte
-abbrev pub Ascends : List (List ℕ) → Type 0
-Ascends [] = ⊤
-Ascends (name ∷ names) = All (λ later. slice_cmp nat_cmp name later ≡ Less) names × Ascends names
 
 abbrev pub IsShort : List ℕ → Type 0
 IsShort name = length name ≤ 255
@@ -63,7 +56,7 @@ pub record IsKeptStep (step : Step) : Type 0 where
   pub rewrite : IfSome step.rewrite (λ text. IsTrue (is_rewrite text))
   pub changes : All (λ change. IfSome change.1 (λ text. IsTrue (is_location text))) step.changes
   pub field_names : All (λ change. IsTrue (is_header_name change.0)) step.changes
-  pub field_order : Ascends (map (λ change. change.0) step.changes)
+  pub field_order : AscendsBy (λ change. change.0) step.changes
 
 -- ---- the whole
 
@@ -74,11 +67,11 @@ IsThere conf (goal.Route first count) = first + count ≤ length conf.steps
 
 pub record IsKept (conf : Configuration) : Type 0 where
   pub applications : All IsKeptApplication conf.applications
-  pub application_names : Ascends (map (λ a. a.name) conf.applications)
+  pub application_names : AscendsBy (λ a. a.name) conf.applications
   pub listeners : All (λ l. IsPassText l.pass) conf.listeners
-  pub listener_names : Ascends (map (λ l. l.name) conf.listeners)
+  pub listener_names : AscendsBy (λ l. l.name) conf.listeners
   pub destinations : All (λ d. IsThere conf d.goal) conf.destinations
-  pub destination_names : Ascends (map (λ d. d.name) conf.destinations)
+  pub destination_names : AscendsBy (λ d. d.name) conf.destinations
   pub steps : All IsKeptStep conf.steps
   pub max_body : conf.max_body ≤ 10000000
   pub log_format : IfSome conf.log_format (λ text. IsTrue (is_log_format text))

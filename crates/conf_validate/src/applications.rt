@@ -29,7 +29,8 @@ pub(crate) fn applications_of(
 
 fn applications_in(alloc: Global, members: &TreeMap) -> Result<Vec<Application>, AllocError>
     requires { AreMembers (map_data members.now) }
-    ensures { IfOk result (λ apps. apps.items ≡ map application_of (members_list (map_data members.now))) }
+    ensures { IfOk result
+        (λ apps. apps.items ≡ map application_of (members_list (map_data members.now))) }
 {
     let list = members.members();
     let mut applications = Vec::with_capacity(alloc, list.len())?;
@@ -52,7 +53,8 @@ fn application_of(alloc: Global, name: &[u8], tree: &Tree) -> Result<Application
 
 /// The text that the value is, nothing where it is none.
 fn text_or_nothing(alloc: Global, value: Option<&Tree>) -> Result<Bytes, AllocError>
-    ensures { IfOk result (λ text. text ≡ unwrap_or (text_in (option_map (λ t. data_of t.now) value.entry)) []) }
+    ensures { IfOk result
+        (λ text. text ≡ unwrap_or (text_in (option_map (λ t. data_of t.now) value.entry)) []) }
 {
     match text_in(alloc, value)? {
         Some(text) => Ok(text),
@@ -74,7 +76,8 @@ pub(crate) fn listeners_of(alloc: Global, document: &Tree) -> Result<Vec<Listene
 
 fn listeners_in(alloc: Global, members: &TreeMap) -> Result<Vec<Listener>, AllocError>
     requires { AreMembers (map_data members.now) }
-    ensures { IfOk result (λ list. list.items ≡ map listener_of (members_list (map_data members.now))) }
+    ensures { IfOk result
+        (λ list. list.items ≡ map listener_of (members_list (map_data members.now))) }
 {
     let list = members.members();
     let mut listeners = Vec::with_capacity(alloc, list.len())?;

@@ -53,7 +53,8 @@ fn max_body_of(document: &Tree) -> u64
 
 fn format_of(alloc: Global, log: Option<&Tree>) -> Result<Option<Bytes>, AllocError>
     requires { IfSome log (λ t. IsDocument (data_of t.now)) }
-    ensures { IfOk result (λ format. format ≡ format_of (option_map (λ t. data_of t.now) log.entry)) }
+    ensures { IfOk result
+        (λ format. format ≡ format_of (option_map (λ t. data_of t.now) log.entry)) }
 {
     match log {
         Some(log) => match text_in(alloc, member_of(log, b"format"))? {

@@ -171,7 +171,8 @@ impl Conf {
     pub fn listener<I: Iterator<Item = u8> + Copy>(&self, name: I) -> Option<usize>
         requires can { I.can_next name }
         requires ends { IsFinite (I.remaining name) }
-        ensures { (bytes : List ℕ) → AlwaysYields I.next_gives (λ b. b) name bytes → result ≡ listener_index bytes self.now.listeners }
+        ensures { (bytes : List ℕ) → AlwaysYields I.next_gives (λ b. b) name bytes
+            → result ≡ listener_index bytes self.now.listeners }
     {
         listener_at(self.listeners.as_slice(), name)
     }
@@ -180,14 +181,16 @@ impl Conf {
     pub fn goal<I: Iterator<Item = u8> + Copy>(&self, text: I) -> Option<Goal>
         requires can { I.can_next text }
         requires ends { IsFinite (I.remaining text) }
-        ensures { (bytes : List ℕ) → AlwaysYields I.next_gives (λ b. b) text bytes → result ≡ goal_named bytes self.now.destinations }
+        ensures { (bytes : List ℕ) → AlwaysYields I.next_gives (λ b. b) text bytes
+            → result ≡ goal_named bytes self.now.destinations }
     {
         goal_at(self.destinations.as_slice(), text)
     }
 
     /// Where the pass of this listener leads. None where its text has a `$`, and where there is no such listener.
     pub fn listener_goal(&self, listener: usize) -> Option<Goal>
-        ensures { result ≡ option_and_then (λ l. plain_goal self.now l.pass) (slice_get self.now.listeners listener) }
+        ensures { result ≡ option_and_then (λ l. plain_goal self.now l.pass)
+            (slice_get self.now.listeners listener) }
     {
         match self.listener_goals.get(listener) {
             Some(goal) => *goal,
@@ -198,7 +201,8 @@ impl Conf {
     /// Where the pass of this step leads. None where its text has a `$`, where it has none, and where there is no such
     /// step.
     pub fn step_goal(&self, step: usize) -> Option<Goal>
-        ensures { result ≡ option_and_then (λ s. action_goal self.now s.action) (slice_get self.now.steps step) }
+        ensures { result
+            ≡ option_and_then (λ s. action_goal self.now s.action) (slice_get self.now.steps step) }
     {
         match self.step_goals.get(step) {
             Some(goal) => *goal,

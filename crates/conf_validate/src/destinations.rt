@@ -3,15 +3,15 @@ ghost use Rattle.std.specs.Prelude.{◌≡◌, ◌++◌, IfOk, map, codes};
 ghost use Rattle.conf_tree.specs.Document.{IsDocument};
 ghost use Rattle.conf_tree.specs.View.{data_of, map_data};
 ghost use Rattle.conf_validate.specs.Configuration.{action_goal_among, application_destinations, members_in, members_list, plain_goal_among};
-ghost use Rattle.conf_validate.specs.Kept.{Ascends};
+ghost use Rattle.unit_types.specs.Names.{AscendsBy};
 
 use crate::conf::{Action, Destination, Goal, Listener, Step};
 use crate::members::member_of;
 use crate::references::has_dollar;
-use crate::search::{SliceBytes, goal_at};
+use crate::search::goal_at;
 use conf_tree::{Tree, TreeMap};
 use std::alloc::{AllocError, Global};
-use unit_types::Bytes;
+use unit_types::{Bytes, SliceBytes};
 
 // ---- what passes can name
 
@@ -21,7 +21,8 @@ pub(crate) fn application_destinations(
     document: &Tree,
 ) -> Result<Vec<Destination>, AllocError>
     requires { IsDocument (data_of document.now) }
-    ensures { IfOk result (λ list. list.items ≡ application_destinations 0 (members_in (codes "applications") (data_of document.now))) }
+    ensures { IfOk result (λ list. list.items
+        ≡ application_destinations 0 (members_in (codes "applications") (data_of document.now))) }
 {
     match member_of(document, b"applications") {
         Some(Tree::Object(map)) => destinations_in(alloc, map),
@@ -30,7 +31,8 @@ pub(crate) fn application_destinations(
 }
 
 fn destinations_in(alloc: Global, members: &TreeMap) -> Result<Vec<Destination>, AllocError>
-    ensures { IfOk result (λ list. list.items ≡ application_destinations 0 (members_list (map_data members.now))) }
+    ensures { IfOk result
+        (λ list. list.items ≡ application_destinations 0 (members_list (map_data members.now))) }
 {
     let list = members.members();
     let mut destinations = Vec::with_capacity(alloc, list.len())?;
@@ -60,8 +62,9 @@ pub(crate) fn goals_of_listeners(
     listeners: &[Listener],
     destinations: &[Destination],
 ) -> Result<Vec<Option<Goal>>, AllocError>
-    requires { Ascends (map (λ d. d.name) destinations.now) }
-    ensures { IfOk result (λ goals. goals.items ≡ map (λ l. plain_goal_among destinations.now l.pass) listeners.now) }
+    requires { AscendsBy (λ d. d.name) destinations.now }
+    ensures { IfOk result
+        (λ goals. goals.items ≡ map (λ l. plain_goal_among destinations.now l.pass) listeners.now) }
 {
     let mut goals = Vec::with_capacity(alloc, listeners.len())?;
     for listener in listeners {
@@ -76,8 +79,9 @@ pub(crate) fn goals_of_steps(
     steps: &[Step],
     destinations: &[Destination],
 ) -> Result<Vec<Option<Goal>>, AllocError>
-    requires { Ascends (map (λ d. d.name) destinations.now) }
-    ensures { IfOk result (λ goals. goals.items ≡ map (λ s. action_goal_among destinations.now s.action) steps.now) }
+    requires { AscendsBy (λ d. d.name) destinations.now }
+    ensures { IfOk result
+        (λ goals. goals.items ≡ map (λ s. action_goal_among destinations.now s.action) steps.now) }
 {
     let mut goals = Vec::with_capacity(alloc, steps.len())?;
     for step in steps {
@@ -87,7 +91,7 @@ pub(crate) fn goals_of_steps(
 }
 
 fn action_goal_among(destinations: &[Destination], action: &Action) -> Option<Goal>
-    requires { Ascends (map (λ d. d.name) destinations.now) }
+    requires { AscendsBy (λ d. d.name) destinations.now }
     ensures { result ≡ action_goal_among destinations.now action.now }
 {
     match action {
@@ -97,12 +101,12 @@ fn action_goal_among(destinations: &[Destination], action: &Action) -> Option<Go
 }
 
 fn plain_goal_among(destinations: &[Destination], text: &[u8]) -> Option<Goal>
-    requires { Ascends (map (λ d. d.name) destinations.now) }
+    requires { AscendsBy (λ d. d.name) destinations.now }
     ensures { result ≡ plain_goal_among destinations.now text.now }
 {
     if has_dollar(text) {
         None
     } else {
-        goal_at(destinations, SliceBytes { rest: text })
+        goal_at(destinations, SliceBytes::of(text))
     }
 }

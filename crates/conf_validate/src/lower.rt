@@ -32,8 +32,10 @@ impl LowerNames {
         names: Names,
         name: &[u8],
     ) -> Result<bool, AllocError>
-        ensures again { IfOk result (λ again. (earlier : List (List ℕ)) → KnowsOf names self.old earlier → IsAgain names earlier name.now again) }
-        ensures known { IfOk result (λ again. (earlier : List (List ℕ)) → KnowsOf names self.old earlier → KnowsOf names self.new (earlier ++ name.now ∷ [])) }
+        ensures again { IfOk result (λ again. (earlier : List (List ℕ))
+            → KnowsOf names self.old earlier → IsAgain names earlier name.now again) }
+        ensures known { IfOk result (λ again. (earlier : List (List ℕ))
+            → KnowsOf names self.old earlier → KnowsOf names self.new (earlier ++ name.now ∷ [])) }
     {
         match names {
             Names::Header(_) => self.meet(alloc, name),
@@ -42,8 +44,10 @@ impl LowerNames {
     }
 
     fn meet(&mut self, alloc: Global, name: &[u8]) -> Result<bool, AllocError>
-        ensures again { IfOk result (λ again. (earlier : List (List ℕ)) → Knows self.old earlier → again ≡ is_again earlier name.now) }
-        ensures known { IfOk result (λ again. (earlier : List (List ℕ)) → Knows self.old earlier → Knows self.new (earlier ++ name.now ∷ [])) }
+        ensures again { IfOk result (λ again. (earlier : List (List ℕ)) → Knows self.old earlier
+            → again ≡ is_again earlier name.now) }
+        ensures known { IfOk result (λ again. (earlier : List (List ℕ)) → Knows self.old earlier
+            → Knows self.new (earlier ++ name.now ∷ [])) }
     {
         let lower = lowercase(alloc, name)?;
         let old = match self.names.insert(lower, ()) {

@@ -1,46 +1,17 @@
 //! The forms of names.
-ghost use Rattle.std.specs.Prelude.{◌≡◌, ◌≤◌, option_map, IfSome, ◌==◌};
+ghost use Rattle.std.specs.Prelude.{◌≡◌, ◌≤◌, ◌==◌};
 ghost use Rattle.std.specs.List.{list_all, list_any};
-ghost use Rattle.pattern_addr.specs.AddressPattern.{cut, number_of};
 ghost use Rattle.unit_types.specs.Token.{is_tchar};
 ghost use Rattle.conf_validate.specs.Forms.{are_numbers, is_header_name, is_host, is_listener_name, is_number, is_of_connection, is_port, is_target_name, is_token};
 
 use http_header::is_token_char;
-
-/// The text in front of the first separator and the text behind it, where there is a separator.
-fn cut(text: &[u8], separator: u8) -> Option<(&[u8], &[u8])>
-    ensures { option_map (λ parts. (parts.0.now, parts.1.now)) result ≡ cut separator text.now }
-{
-    let at = text.iter().position(|b| *b == separator)?;
-    Some((&text[..at], &text[at + 1..]))
-}
-
-/// The decimal number of at most `limit` that the text spells.
-pub(crate) fn number_of(text: &[u8], limit: u16) -> Option<u16>
-    ensures value { result ≡ number_of limit text.now }
-    ensures small { IfSome result (λ n. n ≤ limit) }
-{
-    if text.is_empty() {
-        return None;
-    }
-    let mut value = 0u32;
-    for digit in text {
-        if !digit.is_ascii_digit() {
-            return None;
-        }
-        value = value * 10 + u32::from(*digit - b'0');
-        if value > u32::from(limit) {
-            return None;
-        }
-    }
-    u16::try_from(value).ok()
-}
+use unit_types::{cut, plain_decimal};
 
 /// Whether the text is digits without a leading zero, of a value of at most `limit`.
 fn is_number(text: &[u8], limit: u16) -> bool
     ensures { result ≡ is_number limit text.now }
 {
-    number_of(text, limit).is_some() && !(text.starts_with(b"0") && text.len() > 1)
+    plain_decimal(text, u64::from(limit)).is_some()
 }
 
 /// Whether the text is so many numbers up to 255, each with a period behind it, and one more.

@@ -46,7 +46,8 @@ fn text_or_nil(tree: &Tree) -> &[u8]
 // ---- texts
 
 fn texts_in(alloc: Global, value: Option<&Tree>) -> Result<Option<TextPatterns>, AllocError>
-    ensures { IfOk result (λ texts. texts ≡ option_map texts_of (option_map (λ t. data_of t.now) value.entry)) }
+    ensures { IfOk result
+        (λ texts. texts ≡ option_map texts_of (option_map (λ t. data_of t.now) value.entry)) }
 {
     match value {
         Some(tree) => Ok(Some(texts_of(alloc, tree)?)),
@@ -73,7 +74,8 @@ fn one_text(alloc: Global, text: &[u8]) -> Result<TextPatterns, AllocError>
 }
 
 fn list_of_texts(alloc: Global, items: &TreeList) -> Result<TextPatterns, AllocError>
-    ensures { IfOk result (λ texts. texts ≡ map text_or_nil (items_list (list_data items.now.items))) }
+    ensures { IfOk result
+        (λ texts. texts ≡ map text_or_nil (items_list (list_data items.now.items))) }
 {
     let mut list = Vec::with_capacity(alloc, items.len())?;
     for item in items {
@@ -85,7 +87,8 @@ fn list_of_texts(alloc: Global, items: &TreeList) -> Result<TextPatterns, AllocE
 // ---- addresses
 
 fn addresses_in(alloc: Global, value: Option<&Tree>) -> Result<Option<AddrPatterns>, AllocError>
-    ensures { IfOk result (λ addresses. addresses ≡ option_map addresses_of (option_map (λ t. data_of t.now) value.entry)) }
+    ensures { IfOk result (λ addresses. addresses
+        ≡ option_map addresses_of (option_map (λ t. data_of t.now) value.entry)) }
 {
     match value {
         Some(tree) => Ok(Some(AddrPatterns::of(addresses_of(alloc, tree)?))),
@@ -106,7 +109,8 @@ fn addresses_of(alloc: Global, tree: &Tree) -> Result<Vec<AddrPattern>, AllocErr
 }
 
 fn push_addresses(list: &mut Vec<AddrPattern>, items: &TreeList) -> Result<(), AllocError>
-    ensures { OnOk result (list.new.items ≡ list.old.items ++ flat_map (λ d. address_of (text_or_nil d)) (items_list (list_data items.now.items))) }
+    ensures { OnOk result (list.new.items ≡ list.old.items ++ flat_map
+        (λ d. address_of (text_or_nil d)) (items_list (list_data items.now.items))) }
 {
     for item in items {
         push_address(list, text_or_nil(item))?;
@@ -133,7 +137,8 @@ fn sets_in(
     lower: bool,
     value: Option<&Tree>,
 ) -> Result<Option<NamedSets>, AllocError>
-    ensures { IfOk result (λ sets. sets ≡ option_map (sets_of lower) (option_map (λ t. data_of t.now) value.entry)) }
+    ensures { IfOk result
+        (λ sets. sets ≡ option_map (sets_of lower) (option_map (λ t. data_of t.now) value.entry)) }
 {
     match value {
         Some(tree) => Ok(Some(sets_of(alloc, lower, tree)?)),
@@ -160,7 +165,8 @@ fn one_set(alloc: Global, lower: bool, members: &TreeMap) -> Result<NamedSets, A
 }
 
 fn list_of_sets(alloc: Global, lower: bool, items: &TreeList) -> Result<NamedSets, AllocError>
-    ensures { IfOk result (λ sets. sets ≡ map (named_of lower) (items_list (list_data items.now.items))) }
+    ensures { IfOk result
+        (λ sets. sets ≡ map (named_of lower) (items_list (list_data items.now.items))) }
 {
     let mut list = Vec::with_capacity(alloc, items.len())?;
     for item in items {

@@ -2,11 +2,13 @@
 ghost use Rattle.std.specs.Prelude.{◌≡◌, MatchOption, None, Some};
 ghost use Rattle.conf_validate.specs.Ports.{port_number, port_of, port_text};
 
-use crate::names::{is_port, number_of};
+use crate::names::is_port;
+use unit_types::plain_decimal;
 
 /// What stands behind the last `:` of a listener's name; None where there is no `:`.
 pub fn port_text(name: &[u8]) -> Option<&[u8]>
-    ensures { MatchOption result (port_text name.now ≡ None) (λ port. port_text name.now ≡ Some port.now) }
+    ensures { MatchOption result (port_text name.now ≡ None)
+        (λ port. port_text name.now ≡ Some port.now) }
 {
     let mut behind = None;
     for (at, byte) in name.iter().enumerate() {
@@ -31,9 +33,9 @@ pub fn port_of(name: &[u8]) -> Option<u16>
 fn port_number(text: &[u8]) -> Option<u16>
     ensures { result ≡ port_number text.now }
 {
-    if is_port(text) {
-        number_of(text, 65535)
-    } else {
-        None
+    if !is_port(text) {
+        return None;
     }
+    let number = plain_decimal(text, 65535)?;
+    u16::try_from(number).ok()
 }

@@ -24,7 +24,9 @@ pub(crate) fn steps_of(
 ) -> Result<Vec<Step>, AllocError>
     requires { IsDocument (data_of document.now) }
     ensures steps { IfOk result (λ steps. steps.items ≡ steps_of (data_of document.now)) }
-    ensures destinations { IfOk result (λ _. destinations.new.items ≡ destinations.old.items ++ list_in destinations_of_routes (get (codes "routes") (data_of document.now))) }
+    ensures destinations { IfOk result (λ _. destinations.new.items
+        ≡ destinations.old.items ++ list_in destinations_of_routes
+        (get (codes "routes") (data_of document.now))) }
 {
     match member_of(document, b"routes") {
         Some(Tree::List(items)) => one_route(alloc, items, destinations),
@@ -39,8 +41,14 @@ fn one_route(
     destinations: &mut Vec<Destination>,
 ) -> Result<Vec<Step>, AllocError>
     requires { AreDocuments (list_data items.now.items) }
-    ensures steps { IfOk result (λ steps. steps.items ≡ map step_of (items_list (list_data items.now.items))) }
-    ensures destinations { IfOk result (λ _. destinations.new.items ≡ destinations.old.items ++ record { name = codes "routes"; goal = goal.Route 0 (length (items_list (list_data items.now.items))) } ∷ []) }
+    ensures steps { IfOk result
+        (λ steps. steps.items ≡ map step_of (items_list (list_data items.now.items))) }
+    ensures destinations { IfOk result (λ _. destinations.new.items
+        ≡ destinations.old.items ++ record {
+          name = codes "routes";
+          goal = goal.Route 0
+              (length (items_list (list_data items.now.items)));
+        } ∷ []) }
 {
     let mut steps = Vec::new(alloc);
     push_items(alloc, &mut steps, items)?;
@@ -60,8 +68,10 @@ fn named_routes(
     destinations: &mut Vec<Destination>,
 ) -> Result<Vec<Step>, AllocError>
     requires { AreMembers (map_data members.now) }
-    ensures steps { IfOk result (λ steps. steps.items ≡ map step_of (flat_map items_of (values_list (map_data members.now)))) }
-    ensures destinations { IfOk result (λ _. destinations.new.items ≡ destinations.old.items ++ route_destinations 0 (members_list (map_data members.now))) }
+    ensures steps { IfOk result (λ steps. steps.items
+        ≡ map step_of (flat_map items_of (values_list (map_data members.now)))) }
+    ensures destinations { IfOk result (λ _. destinations.new.items
+        ≡ destinations.old.items ++ route_destinations 0 (members_list (map_data members.now))) }
 {
     let mut steps = Vec::new(alloc);
     let list = members.members();
@@ -79,8 +89,10 @@ fn push_named(
     route: &Member,
 ) -> Result<(), AllocError>
     requires { IsDocument (data_of route.now.value) }
-    ensures steps { OnOk result (steps.new.items ≡ steps.old.items ++ map step_of (items_of (data_of route.now.value))) }
-    ensures destinations { OnOk result (destinations.new.items ≡ destinations.old.items ++ record { name = codes "routes/" ++ route.now.key; goal = goal.Route (length steps.old.items) (length (items_of (data_of route.now.value))) } ∷ []) }
+    ensures steps { OnOk result
+        (steps.new.items ≡ steps.old.items ++ map step_of (items_of (data_of route.now.value))) }
+    ensures destinations { OnOk result (destinations.new.items
+        ≡ destinations.old.items ++ record { name = codes "routes/" ++ route.now.key; goal = goal.Route (length steps.old.items) (length (items_of (data_of route.now.value))) } ∷ []) }
 {
     let first = steps.len();
     push_route(alloc, steps, &route.value)?;
@@ -94,7 +106,8 @@ fn push_named(
 
 fn push_route(alloc: Global, steps: &mut Vec<Step>, route: &Tree) -> Result<(), AllocError>
     requires { IsDocument (data_of route.now) }
-    ensures { OnOk result (steps.new.items ≡ steps.old.items ++ map step_of (items_of (data_of route.now))) }
+    ensures { OnOk result
+        (steps.new.items ≡ steps.old.items ++ map step_of (items_of (data_of route.now))) }
 {
     match route {
         Tree::List(items) => push_items(alloc, steps, items),
@@ -104,7 +117,8 @@ fn push_route(alloc: Global, steps: &mut Vec<Step>, route: &Tree) -> Result<(), 
 
 fn push_items(alloc: Global, steps: &mut Vec<Step>, items: &TreeList) -> Result<(), AllocError>
     requires { AreDocuments (list_data items.now.items) }
-    ensures { OnOk result (steps.new.items ≡ steps.old.items ++ map step_of (items_list (list_data items.now.items))) }
+    ensures { OnOk result (steps.new.items ≡ steps.old.items ++ map step_of
+        (items_list (list_data items.now.items))) }
 {
     for item in items {
         steps.push(step_of(alloc, item)?)?;
@@ -130,7 +144,8 @@ fn step_of(alloc: Global, tree: &Tree) -> Result<Step, AllocError>
 
 fn action_of(alloc: Global, value: Option<&Tree>) -> Result<Action, AllocError>
     requires { IfSome value (λ t. IsDocument (data_of t.now)) }
-    ensures { IfOk result (λ action. action ≡ action_of (option_map (λ t. data_of t.now) value.entry)) }
+    ensures { IfOk result
+        (λ action. action ≡ action_of (option_map (λ t. data_of t.now) value.entry)) }
 {
     match text_in(alloc, part(value, b"pass"))? {
         Some(pass) => Ok(Action::Pass(pass)),
@@ -150,7 +165,8 @@ fn status_of(number: Option<u64>) -> u16
 
 fn changes_in(alloc: Global, value: Option<&Tree>) -> Result<Changes, AllocError>
     requires { IfSome value (λ t. IsDocument (data_of t.now)) }
-    ensures { IfOk result (λ changes. changes ≡ changes_in (option_map (λ t. data_of t.now) value.entry)) }
+    ensures { IfOk result
+        (λ changes. changes ≡ changes_in (option_map (λ t. data_of t.now) value.entry)) }
 {
     match value {
         Some(Tree::Object(map)) => changes_of(alloc, map),

@@ -20,7 +20,8 @@ use std::alloc::Global;
 
 /// Rules 1 and 4 of a number.
 pub(crate) fn number_fault(alloc: Global, range: Option<Range>, integer: i128) -> Option<Invalid>
-    ensures { result ≡ for_some range (broken 1) (λ range. broken_if (not (is_in_range range (of_integer integer))) 4) }
+    ensures { result ≡ for_some range (broken 1)
+        (λ range. broken_if (not (is_in_range range (of_integer integer))) 4) }
 {
     match range {
         Some(range) => broken_if(alloc, !is_in_range(range, integer), 4),
@@ -42,7 +43,8 @@ pub(crate) fn text_fault(
     text: &[u8],
 ) -> Option<Invalid>
     requires { IsScope scope.now }
-    ensures { result ≡ for_some form (broken 1) (λ form. text_fault whole_table (context_of scope.now) form text.now) }
+    ensures { result ≡ for_some form (broken 1)
+        (λ form. text_fault whole_table (context_of scope.now) form text.now) }
 {
     let form = match form {
         Some(form) => form,

@@ -1,10 +1,10 @@
 //! Searches by name.
 ghost use Rattle.std.specs.Iterator.{AlwaysYields, IsFinite};
-ghost use Rattle.std.specs.Prelude.{◌≡◌, List, ℕ, map};
+ghost use Rattle.std.specs.Prelude.{◌≡◌, List, ℕ};
 ghost use Rattle.std.specs.Cmp.Lexicographic.{slice_cmp};
 ghost use Rattle.std.specs.Ordering.{nat_cmp};
 ghost use Rattle.conf_validate.specs.Configuration.{goal_named, listener_index};
-ghost use Rattle.conf_validate.specs.Kept.{Ascends};
+ghost use Rattle.unit_types.specs.Names.{AscendsBy};
 
 use crate::conf::{Destination, Goal, Listener};
 use std::cmp::Ordering;
@@ -16,15 +16,17 @@ pub(crate) fn listener_at<I: Iterator<Item = u8> + Copy>(
 ) -> Option<usize>
     requires can { I.can_next name }
     requires ends { IsFinite (I.remaining name) }
-    requires ascends { Ascends (map (λ l. l.name) listeners.now) }
-    ensures { (bytes : List ℕ) → AlwaysYields I.next_gives (λ b. b) name bytes → result ≡ listener_index bytes listeners.now }
+    requires ascends { AscendsBy (λ l. l.name) listeners.now }
+    ensures { (bytes : List ℕ) → AlwaysYields I.next_gives (λ b. b) name bytes
+        → result ≡ listener_index bytes listeners.now }
 {
     listeners
         .binary_search_by(
             |listener: &Listener| -> Ordering
                 requires can { I.can_next name }
                 requires ends { IsFinite (I.remaining name) }
-                ensures { (bytes : List ℕ) → AlwaysYields I.next_gives (λ b. b) name bytes → result ≡ slice_cmp nat_cmp listener.now.name bytes }
+                ensures { (bytes : List ℕ) → AlwaysYields I.next_gives (λ b. b) name bytes
+                    → result ≡ slice_cmp nat_cmp listener.now.name bytes }
             { compare(listener.name.as_slice(), name) },
         )
         .ok()
@@ -37,14 +39,16 @@ pub(crate) fn goal_at<I: Iterator<Item = u8> + Copy>(
 ) -> Option<Goal>
     requires can { I.can_next name }
     requires ends { IsFinite (I.remaining name) }
-    requires ascends { Ascends (map (λ d. d.name) destinations.now) }
-    ensures { (bytes : List ℕ) → AlwaysYields I.next_gives (λ b. b) name bytes → result ≡ goal_named bytes destinations.now }
+    requires ascends { AscendsBy (λ d. d.name) destinations.now }
+    ensures { (bytes : List ℕ) → AlwaysYields I.next_gives (λ b. b) name bytes
+        → result ≡ goal_named bytes destinations.now }
 {
     match destinations.binary_search_by(
         |destination: &Destination| -> Ordering
             requires can { I.can_next name }
             requires ends { IsFinite (I.remaining name) }
-            ensures { (bytes : List ℕ) → AlwaysYields I.next_gives (λ b. b) name bytes → result ≡ slice_cmp nat_cmp destination.now.name bytes }
+            ensures { (bytes : List ℕ) → AlwaysYields I.next_gives (λ b. b) name bytes
+                → result ≡ slice_cmp nat_cmp destination.now.name bytes }
         { compare(destination.name.as_slice(), name) },
     ) {
         Ok(index) => Some(destinations[index].goal),
@@ -56,7 +60,8 @@ pub(crate) fn goal_at<I: Iterator<Item = u8> + Copy>(
 fn compare<I: Iterator<Item = u8> + Copy>(name: &[u8], mut text: I) -> Ordering
     requires can { I.can_next text }
     requires ends { IsFinite (I.remaining text) }
-    ensures { (bytes : List ℕ) → AlwaysYields I.next_gives (λ b. b) text bytes → result ≡ slice_cmp nat_cmp name.now bytes }
+    ensures { (bytes : List ℕ) → AlwaysYields I.next_gives (λ b. b) text bytes
+        → result ≡ slice_cmp nat_cmp name.now bytes }
 {
     for byte in name {
         let Some(other) = text.next() else {
@@ -71,31 +76,5 @@ fn compare<I: Iterator<Item = u8> + Copy>(name: &[u8], mut text: I) -> Ordering
     match text.next() {
         Some(_) => Ordering::Less,
         None => Ordering::Equal,
-    }
-}
-
-/// An iterator over the bytes of a slice that can be copied.
-#[derive(Clone, Copy, Drop)]
-pub(crate) struct SliceBytes<'a> {
-    pub(crate) rest: &'a [u8],
-}
-
-impl Iterator for SliceBytes<'_> {
-    ghost use Rattle.std.specs.Iterator.{YieldsFirst, item_count};
-
-    type Item = u8;
-
-    ghost next_gives = { YieldsFirst (λ s. s.rest.now) };
-
-    ghost remaining = { item_count (λ s. s.rest.now) };
-
-    fn next(&mut self) -> Option<u8> {
-        match self.rest {
-            [first, rest @ ..] => {
-                self.rest = rest;
-                Some(*first)
-            }
-            [] => None,
-        }
     }
 }

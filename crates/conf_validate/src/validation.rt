@@ -19,7 +19,8 @@ use unit_types::Bytes;
 pub fn validate(alloc: Global, document: &Tree, handlers: &[Bytes]) -> Result<Conf, ConfFault>
     requires document { IsDocument (data_of document.now) }
     requires short { All (λ name. length name ≤ 255) handlers.now }
-    ensures { MatchResult result (IsConfiguration (data_of document.now) handlers.now) (IsRefusal (data_of document.now) handlers.now) }
+    ensures { MatchResult result (IsConfiguration (data_of document.now) handlers.now)
+        (IsRefusal (data_of document.now) handlers.now) }
 {
     match first_fault(alloc, document, handlers)? {
         Some(fault) => Err(ConfFault::Invalid(fault)),

@@ -13,7 +13,8 @@ use unit_types::Bytes;
 /// The member of this name of a value that is there.
 pub(crate) fn part<'a>(value: Option<&'a Tree>, name: &[u8]) -> Option<&'a Tree>
     requires { IfSome value (λ t. IsDocument (data_of t.now)) }
-    ensures value { option_map (λ t. data_of t.now) result ≡ part name.now (option_map (λ t. data_of t.now) value.entry) }
+    ensures value { option_map (λ t. data_of t.now) result
+        ≡ part name.now (option_map (λ t. data_of t.now) value.entry) }
     ensures document { IfSome result (λ t. IsDocument (data_of t.now)) }
 {
     match value {

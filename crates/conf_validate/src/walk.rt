@@ -45,7 +45,8 @@ fn value_fault(
 ) -> Result<Option<Invalid>, AllocError>
     requires scope { IsScope scope.now }
     requires value { IsDocument (data_of tree.now) }
-    ensures { IfOk result (λ fault. fault ≡ value_fault whole_table (context_of scope.now) place (data_of tree.now)) }
+    ensures { IfOk result
+        (λ fault. fault ≡ value_fault whole_table (context_of scope.now) place (data_of tree.now)) }
 {
     let row = place.row();
     match tree {
@@ -73,7 +74,8 @@ fn items_fault(
 ) -> Result<Option<Invalid>, AllocError>
     requires scope { IsScope scope.now }
     requires items { AreDocuments (list_data items.now.items) }
-    ensures { IfOk result (λ fault. fault ≡ items_fault whole_table (context_of scope.now) place 0 (list_data items.now.items)) }
+    ensures { IfOk result (λ fault. fault ≡ items_fault whole_table (context_of scope.now) place 0
+        (list_data items.now.items)) }
 {
     for (index, item) in items.iter().enumerate() {
         match value_fault(alloc, scope, place, item)? {
@@ -94,7 +96,11 @@ fn object_fault(
 ) -> Result<Option<Invalid>, AllocError>
     requires scope { IsScope scope.now }
     requires members { AreMembers (map_data map.now) }
-    ensures { IfOk result (λ fault. fault ≡ or_then (broken_if (not (has_required (entries_of place) (map_data map.now))) 3) (or_then (broken_if (not (is_choice_at whole_table place (map_data map.now))) 6) (members_fault whole_table (context_of scope.now) (entries_of place) names [] (map_data map.now)))) }
+    ensures { IfOk result (λ fault. fault ≡ or_then
+        (broken_if (not (has_required (entries_of place) (map_data map.now))) 3)
+        (or_then (broken_if (not (is_choice_at whole_table place (map_data map.now))) 6)
+        (members_fault whole_table (context_of scope.now) (entries_of place) names []
+        (map_data map.now)))) }
 {
     if !has_required(place, map) {
         return Ok(Some(Invalid::here(alloc, 3)));
@@ -115,7 +121,8 @@ fn members_fault(
 ) -> Result<Option<Invalid>, AllocError>
     requires scope { IsScope scope.now }
     requires members { AreMembers (map_data map.now) }
-    ensures { IfOk result (λ fault. fault ≡ members_fault whole_table (context_of scope.now) (entries_of place) names [] (map_data map.now)) }
+    ensures { IfOk result (λ fault. fault ≡ members_fault whole_table (context_of scope.now)
+        (entries_of place) names [] (map_data map.now)) }
 {
     let mut earlier = LowerNames::new(alloc);
     let list = map.members();
@@ -144,7 +151,8 @@ fn member_fault(
 ) -> Result<Option<Invalid>, AllocError>
     requires scope { IsScope scope.now }
     requires value { IsDocument (data_of value.now) }
-    ensures { IfOk result (λ fault. fault ≡ for_some place (broken 2) (λ p. value_fault whole_table (context_of scope.now) p (data_of value.now))) }
+    ensures { IfOk result (λ fault. fault ≡ for_some place (broken 2)
+        (λ p. value_fault whole_table (context_of scope.now) p (data_of value.now))) }
 {
     match place {
         Some(place) => value_fault(alloc, scope, place, value),

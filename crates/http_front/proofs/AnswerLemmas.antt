@@ -1,14 +1,14 @@
 -- What an answer of a reader can be.
-use Rattle.std.proofs.Common.{ℕ, ◌<◌, ◌≡◌, ◌∙◌, sym, ap, refl, arith, Bool, true, false, if◌then◌else◌, ◌&&◌, ◌||◌, not, Option}
+use Rattle.std.proofs.Common.{ℕ, List, ◌++◌, ◌<◌, ◌≡◌, ◌≢◌, ◌∙◌, sym, ap, refl, arith, Bool, true, false, if◌then◌else◌, ◌&&◌, ◌||◌, not, Option}
 use Rattle.std.proofs.lemmas.Bool.{false≢true}
 use Rattle.std.specs.Option.{is_some}
-use Rattle.http_front.specs.declared.reader.Next.{Next}
-use Rattle.http_front.specs.declared.reader.Next.TheVariants as Answer
+use Rattle.http_front.specs.declared.next_unit.Next.{Next}
+use Rattle.http_front.specs.declared.next_unit.Next.TheVariants as Answer
 use Rattle.http_front.specs.Front.{head_begun}
 use Rattle.http_front.specs.NextUnit.{Found, request, bad, cut, finished, wait, NextUnit, next_unit}
 use Rattle.http_front.specs.Reading.{Reading, limit_or, unit_in, answer_for, is_request, is_final, asks_now, unit_answer, kept_limit, next_answer, next_reading, has_begun}
 use Rattle.http_front.proofs.ReaderLemmas.{error_status}
-use Rattle.http_front.proofs.StayLemmas.{ended_tells}
+use Rattle.http_front.proofs.StayLemmas.{found_stays, ended_tells}
 use Rattle.http_front.proofs.UnitLemmas.{unbegun_alike}
 
 -- but for `Continue`, an answer tells what was found
@@ -160,3 +160,23 @@ final_again r limit again final =
     let idle = final_idle r limit (asks_now r (unit_in r limit)) refl final in
     ap (λ (q : Reading). next_answer q again) (next_left r limit false idle (final_found (next_answer r limit) final))
     ∙ ap (unit_answer r) (unit_again r limit again)
+
+-- a last answer needed no more bytes
+final_tells : (r : Reading) (unit : NextUnit) → is_final (unit_answer r unit) ≡ true → asks_now r unit ≡ false → unit.found ≡ wait → ⊥
+final_tells r unit final idle is =
+    let answer : unit_answer r unit ≡ Answer.NeedMore = rw (idle, is) refl in
+    false≢true (sym (ap is_final answer) ∙ final)
+
+-- so it comes again whatever follows, also at the end of the input
+pub final_fed : (r : Reading) (limit again : ℕ) (more : List ℕ) (ended : Bool) → r.ended ≡ false → is_final (next_answer r limit) ≡ true
+    → next_answer (record (next_reading r limit) { unread = (next_reading r limit).unread ++ more; ended = ended }) again ≡ next_answer r limit
+final_fed r limit again more ended running final =
+    let idle = final_idle r limit (asks_now r (unit_in r limit)) refl final in
+    let counts : ℕ = limit_or (kept_limit (head_begun r.unread) r.limit limit) again in
+    let alike : next_unit r.unread false counts ≡ unit_in r limit =
+    ap (λ over. next_unit r.unread over counts) (sym running) ∙ unit_again r limit again in
+    let tells : (next_unit r.unread false counts).found ≢ wait =
+    λ is. final_tells r (unit_in r limit) final idle (ap (λ (u : NextUnit). u.found) (sym alike) ∙ is) in
+    ap (λ (q : Reading). next_answer (record q { unread = q.unread ++ more; ended = ended }) again)
+    (next_left r limit false idle (final_found (next_answer r limit) final))
+    ∙ ap (unit_answer r) (found_stays r.unread more ended counts tells ∙ alike)

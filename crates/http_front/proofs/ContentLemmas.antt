@@ -1,7 +1,7 @@
 -- A content by its framing.
 use Rattle.std.proofs.Common.{ℕ, ◌≡◌, refl, List, true, false}
 use Rattle.unit_types.specs.declared.field.Field.{Field}
-use Rattle.http_front.specs.Checks.{is_chunked, content_length}
+use Rattle.http_front.specs.Framing.{is_chunked, content_length}
 use Rattle.http_front.specs.Chunks.{chunked_content}
 use Rattle.http_front.specs.Content.{sized_content, content_of}
 

@@ -10,7 +10,7 @@ use Rattle.http_front.specs.declared.chunk.Chunk.{Chunk}
 use Rattle.http_front.specs.declared.chunk.Chunk.TheVariants.{Data, Last, Refused, Open}
 use Rattle.http_front.specs.Front.{Front, unready, too_long, block, front_of, is_ready}
 use Rattle.unit_types.specs.Limits.{head_limit}
-use Rattle.http_front.specs.Checks.{is_chunked, content_length}
+use Rattle.http_front.specs.Framing.{is_chunked, content_length}
 use Rattle.http_front.specs.ChunkLine.{chunk_size_of}
 use Rattle.http_front.specs.Chunks.{line_feed_chunk, return_chunk, data_chunk, last_chunk, sized_chunk, line_chunk, front_chunk, line_front, first_chunk, content_behind, chunk_len, chunk_content, chunks_in, chunked_content}
 use Rattle.http_front.specs.Content.{sized_content, content_of}

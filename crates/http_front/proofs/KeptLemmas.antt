@@ -2,7 +2,7 @@
 use Rattle.std.proofs.Common.{ℕ, ◌≡◌, ◌+◌, refl, sym, ap, ◌∙◌, subst, List, [], ◌++◌, drop, Bool, true, false, not, ◌&&◌, if◌then◌else◌, Option, Some, None, append_assoc, append-nil, Result, Ok, Err, IfOk, OnOk, OnErr}
 use Rattle.std.specs.Result.{is_ok}
 use Rattle.unit_types.specs.declared.message.Addr.{Addr}
-use Rattle.http_front.specs.declared.reader.Next.TheVariants as Answer
+use Rattle.http_front.specs.declared.next_unit.Next.TheVariants as Answer
 use Rattle.http_front.specs.declared.search.Search.{Search}
 use Rattle.http_front.specs.Front.{head_begun}
 use Rattle.http_front.specs.NextUnit.{Found, request, bad, cut, finished, wait, NextUnit, next_unit}

@@ -1,6 +1,6 @@
 -- The number that digits write.
 use Rattle.std.proofs.Common.{ℕ, ◌+◌, ◌-◌, ◌*◌, ◌≤◌, List, [], ◌∷◌, arith}
-use Rattle.http_front.specs.Checks.{number_from}
+use Rattle.http_front.specs.Framing.{number_from}
 
 -- more digits make no number smaller
 pub number_grows : (n : ℕ) (text : List ℕ) → n ≤ number_from n text

@@ -4,8 +4,8 @@ use Rattle.std.proofs.lemmas.List.{take-append-le, drop-append-le}
 use Rattle.std.proofs.lemmas.Bool.Decides.{nat_tests}
 use Rattle.httparse.specs.Grammar.{RequestHead}
 use Rattle.unit_types.specs.declared.field.Field.{Field}
-use Rattle.http_front.specs.declared.progress.Framing.{Framing}
-use Rattle.http_front.specs.declared.progress.Framing.TheVariants.{Length, Chunks}
+use Rattle.http_front.specs.declared.framing.Framing.{Framing}
+use Rattle.http_front.specs.declared.framing.Framing.TheVariants.{Length, Chunks}
 use Rattle.http_front.specs.declared.progress.Progress.{Progress}
 use Rattle.http_front.specs.declared.progress.Progress.TheVariants as At
 use Rattle.http_front.specs.declared.content.Content.{Content}
@@ -16,14 +16,15 @@ use Rattle.http_front.specs.Front.{block, blank_len, front_of, is_ready, head_be
 use Rattle.unit_types.specs.Limits.{head_limit}
 use Rattle.http_front.specs.Message.{fields_of}
 use Rattle.http_front.specs.Target.{is_faulty_target}
-use Rattle.http_front.specs.Checks.{has_too_many_lines, lacks_host, is_ambiguous, has_other_coding, has_faulty_length, is_too_long, is_chunked, content_length, refusal_step, refusal_of}
+use Rattle.http_front.specs.Checks.{has_too_many_lines, lacks_host, is_ambiguous, has_other_coding, has_faulty_length, is_too_long, refusal_step, refusal_of}
+use Rattle.http_front.specs.Framing.{is_chunked, content_length, framing_of}
 use Rattle.http_front.specs.Chunks.{first_chunk, content_behind, chunk_len, chunked_content}
-use Rattle.http_front.specs.Content.{sized_content, content_of, is_continue_due}
+use Rattle.http_front.specs.Content.{sized_content, content_of, is_continue_due, content_by}
 use Rattle.http_front.specs.NextUnit.{content_found, checked_unit, block_unit, front_unit, next_unit}
 use Rattle.unit_types.specs.declared.message.Addr.{Addr}
 use Rattle.http_front.specs.Reading.{limit_or, kept_limit}
 use Rattle.http_front.specs.Kept.{Kept, begun_at, unit_of, Unchanged}
-use Rattle.http_front.specs.Progress.{content_by, framing_of, waiting, Waits, start, Tells, TellsBehind, Knows, IsWithin, Moves}
+use Rattle.http_front.specs.Progress.{waiting, Waits, start, Tells, TellsBehind, Knows, IsWithin, Moves}
 use Rattle.http_front.proofs.ChunkLemmas.{steps_enough, chunks_step, chunk_fits_as}
 use Rattle.http_front.proofs.ContentStays.{chunk_stays}
 use Rattle.http_front.proofs.FrontStays.{front_fits}

@@ -14,7 +14,7 @@ use Rattle.http_front.specs.Checks.{has_too_many_lines, lacks_host, is_ambiguous
 use Rattle.http_front.specs.Content.{content_of}
 use Rattle.http_front.specs.NextUnit.{Found, request, bad, cut, finished, wait, open_found, content_found, unready_found, end_found, checked_unit, block_unit, front_unit, next_unit}
 use Rattle.unit_types.specs.declared.message.Addr.{Addr}
-use Rattle.http_front.specs.declared.front.Told.{Told}
+use Rattle.http_front.specs.declared.next_unit.Told.{Told}
 use Rattle.http_front.specs.Reading.{answer_at, is_request, used_by, kept_limit}
 use Rattle.http_front.specs.Kept.{Kept, begun_at, unit_of, asks_of, kept_behind, limited, kept_next, told_in}
 use Rattle.http_front.proofs.KeptLemmas.{head_kept}

@@ -1,12 +1,12 @@
 -- The checks of a head, in their order (RFC 9112, sections 3 and 6; RFC 9110, section 15.5).
-use Rattle.std.specs.Prelude.{ℕ, ◌+◌, ◌-◌, ◌*◌, Bool, true, false, not, ◌&&◌, ◌||◌, List, [], ◌∷◌, length, ◌==◌, nat_lt, Option, Some, None, codes, if◌then◌else◌, bytes_eq}
+use Rattle.std.specs.Prelude.{ℕ, ◌+◌, ◌-◌, ◌*◌, Bool, true, false, not, ◌&&◌, ◌||◌, List, [], ◌∷◌, length, ◌==◌, nat_lt, Option, Some, None, codes, if◌then◌else◌}
 use Rattle.std.specs.List.{list_all}
 use Rattle.std.specs.Char.{is_ascii_digit}
 use Rattle.unit_types.specs.declared.field.Field.{Field}
 use Rattle.http_front.specs.Head.{lines_in}
 use Rattle.unit_types.specs.Limits.{field_limit}
-use Rattle.unit_types.specs.Text.{lowercase}
-use Rattle.http_front.specs.Fields.{count_of, value_of, has_some}
+use Rattle.http_front.specs.Fields.{count_of}
+use Rattle.http_front.specs.Framing.{has_length, has_coding, is_chunked, length_text, content_length}
 use Rattle.http_front.specs.Target.{is_faulty_target}
 
 -- more lines than that between the request line and the empty line: the fields are too large (431, RFC 6585, section 5)
@@ -32,12 +32,6 @@ host_check = record { status = 400; refuses = λ minor target fields. lacks_host
 
 -- Transfer-Encoding stands beside Content-Length, or in HTTP/1.0, which has none: a sign of smuggling (400, RFC 9112,
 -- sections 6.1 and 6.3)
-abbrev pub has_length : List Field → Bool
-has_length fields = has_some (codes "content-length") fields
-
-abbrev pub has_coding : List Field → Bool
-has_coding fields = has_some (codes "transfer-encoding") fields
-
 abbrev pub is_ambiguous : ℕ → List Field → Bool
 is_ambiguous minor fields = has_coding fields && (has_length fields || minor == 0)
 
@@ -45,11 +39,6 @@ abbrev pub framing_check : Check
 framing_check = record { status = 400; refuses = λ minor target fields. is_ambiguous minor fields }
 
 -- the only transfer coding that is understood is `chunked` alone (501, RFC 9112, section 6.1)
-abbrev pub is_chunked : List Field → Bool
-is_chunked fields =
-    count_of (codes "transfer-encoding") fields == 1
-    && bytes_eq (lowercase (value_of (codes "transfer-encoding") fields)) (codes "chunked")
-
 abbrev pub has_other_coding : List Field → Bool
 has_other_coding fields = has_coding fields && not (is_chunked fields)
 
@@ -63,27 +52,12 @@ has_digits text = list_all is_ascii_digit text
 abbrev pub is_length_text : List ℕ → Bool
 is_length_text text = nat_lt 0 (length text) && nat_lt (length text) 20 && has_digits text
 
-abbrev pub length_text : List Field → List ℕ
-length_text fields = value_of (codes "content-length") fields
-
 abbrev pub has_faulty_length : List Field → Bool
 has_faulty_length fields =
     has_length fields && not (count_of (codes "content-length") fields == 1 && is_length_text (length_text fields))
 
 abbrev pub length_check : Check
 length_check = record { status = 400; refuses = λ minor target fields. has_faulty_length fields }
-
--- the number that decimal digits write behind those of n
-abbrev pub number_from : ℕ → List ℕ → ℕ
-number_from n [] = n
-number_from n (b ∷ text) = number_from (10 * n + (b - 48)) text
-
-abbrev pub number_of : List ℕ → ℕ
-number_of text = number_from 0 text
-
--- the length of the content, which is 0 without Content-Length
-abbrev pub content_length : List Field → ℕ
-content_length fields = number_of (length_text fields)
 
 -- the content is longer than what is taken (413, RFC 9110, section 15.5.14)
 abbrev pub is_too_long : ℕ → List Field → Bool

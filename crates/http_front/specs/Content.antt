@@ -2,16 +2,23 @@
 use Rattle.std.specs.Prelude.{ℕ, Bool, ◌&&◌, ◌||◌, List, length, take, ◌==◌, nat_le, nat_lt, if◌then◌else◌, codes, bytes_eq}
 use Rattle.std.specs.List.{list_any}
 use Rattle.unit_types.specs.declared.field.Field.{Field}
+use Rattle.http_front.specs.declared.framing.Framing.{Framing}
+use Rattle.http_front.specs.declared.framing.Framing.TheVariants.{Length, Chunks}
 use Rattle.http_front.specs.declared.content.Content.{Content}
 use Rattle.http_front.specs.declared.content.Content.TheVariants.{Whole, Open}
 use Rattle.unit_types.specs.Text.{lowercase}
 use Rattle.http_front.specs.Fields.{is_named}
-use Rattle.http_front.specs.Checks.{is_chunked, content_length}
+use Rattle.http_front.specs.Framing.{is_chunked, content_length}
 use Rattle.http_front.specs.Chunks.{chunked_content}
 
 -- a content of that many bytes (RFC 9112, section 6.2)
 abbrev pub sized_content : ℕ → List ℕ → Content
 sized_content n bytes = if nat_le n (length bytes) then Whole (take n bytes) n else Open
+
+-- a content that is framed so
+abbrev pub content_by : Framing → List ℕ → Content
+content_by (Length n) bytes = sized_content n bytes
+content_by (Chunks room) bytes = chunked_content room bytes
 
 -- the content by its fields; a request with neither Content-Length nor Transfer-Encoding has none (RFC 9112, section 6.3)
 unfoldable pub content_of : ℕ → List Field → List ℕ → Content

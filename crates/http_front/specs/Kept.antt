@@ -3,10 +3,10 @@ use Rattle.std.specs.Prelude.{ℕ, ◌≡◌, Bool, true, false, not, ◌&&◌, 
 use Rattle.std.specs.Bool.{⊤}
 use Rattle.unit_types.specs.declared.message.Addr.{Addr}
 use Rattle.unit_types.specs.declared.message.Request.{Request}
-use Rattle.http_front.specs.declared.front.Told.{Told}
-use Rattle.http_front.specs.declared.progress.Framing.{Framing}
-use Rattle.http_front.specs.declared.reader.Next.{Next}
-use Rattle.http_front.specs.declared.reader.Next.TheVariants as Answer
+use Rattle.http_front.specs.declared.next_unit.Told.{Told}
+use Rattle.http_front.specs.declared.framing.Framing.{Framing}
+use Rattle.http_front.specs.declared.next_unit.Next.{Next}
+use Rattle.http_front.specs.declared.next_unit.Next.TheVariants as Answer
 use Rattle.http_front.specs.Front.{head_begun}
 use Rattle.http_front.specs.NextUnit.{Found, request, NextUnit}
 use Rattle.http_front.specs.Reading.{Reading, limit_or, kept_limit, answer_at, told_of}

@@ -1,6 +1,7 @@
 pub mod Head
 pub mod Front
 pub mod Fields
+pub mod Framing
 pub mod Target
 pub mod Message
 pub mod Checks

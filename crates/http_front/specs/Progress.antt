@@ -2,20 +2,15 @@
 use Rattle.std.specs.Prelude.{ℕ, ◌≡◌, ◌≢◌, ◌+◌, ◌<◌, ◌≤◌, Bool, true, false, not, ◌&&◌, List, ◌++◌, length, drop, Option, Some, if◌then◌else◌}
 use Rattle.std.specs.Option.{option_map}
 use Rattle.std.specs.List.{AllByRecursion}
-use Rattle.unit_types.specs.declared.field.Field.{Field}
 use Rattle.http_front.specs.declared.search.Search.{Search}
-use Rattle.http_front.specs.declared.progress.Framing.{Framing}
-use Rattle.http_front.specs.declared.progress.Framing.TheVariants.{Length, Chunks}
+use Rattle.http_front.specs.declared.framing.Framing.{Framing}
 use Rattle.http_front.specs.declared.progress.Progress.{Progress}
 use Rattle.http_front.specs.declared.progress.Progress.TheVariants as At
-use Rattle.http_front.specs.declared.content.Content.{Content}
 use Rattle.http_front.specs.declared.content.Content.TheVariants.{Open}
 use Rattle.http_front.specs.Head.{is_line_feed}
 use Rattle.http_front.specs.Front.{blank_len, block_len, head_begun}
 use Rattle.unit_types.specs.Limits.{head_limit}
-use Rattle.http_front.specs.Checks.{is_chunked, content_length}
-use Rattle.http_front.specs.Chunks.{chunked_content}
-use Rattle.http_front.specs.Content.{sized_content}
+use Rattle.http_front.specs.Content.{content_by}
 use Rattle.http_front.specs.NextUnit.{NextUnit, wait, next_unit}
 
 -- ---- the search for the end of a head
@@ -37,15 +32,6 @@ pub record IsSearched (s : Search) (bytes : List ℕ) : Type 0 where
   pub lacks : AllByRecursion (λ b. is_line_feed b ≡ false) begun
 
 -- ---- the content that is still to come
-
--- a content that is framed so
-abbrev pub content_by : Framing → List ℕ → Content
-content_by (Length n) bytes = sized_content n bytes
-content_by (Chunks room) bytes = chunked_content room bytes
-
--- how these fields frame it, given the largest content that is taken
-abbrev pub framing_of : ℕ → List Field → Framing
-framing_of limit fields = if is_chunked fields then Chunks limit else Length (content_length fields)
 
 -- a unit that waits
 abbrev pub waiting : Bool → NextUnit

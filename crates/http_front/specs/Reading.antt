@@ -5,9 +5,9 @@ use Rattle.unit_types.specs.declared.message.Addr.{Addr}
 use Rattle.unit_types.specs.declared.message.Request.{Request}
 use Rattle.http_front.specs.declared.content.Content.{Content}
 use Rattle.http_front.specs.declared.content.Content.TheVariants.{Whole, Refused, Open}
-use Rattle.http_front.specs.declared.front.Told.{Told}
-use Rattle.http_front.specs.declared.reader.Next.{Next}
-use Rattle.http_front.specs.declared.reader.Next.TheVariants as Answer
+use Rattle.http_front.specs.declared.next_unit.Told.{Told}
+use Rattle.http_front.specs.declared.next_unit.Next.{Next}
+use Rattle.http_front.specs.declared.next_unit.Next.TheVariants as Answer
 use Rattle.http_front.specs.Front.{head_begun}
 use Rattle.http_front.specs.Content.{is_continue_due}
 use Rattle.http_front.specs.Message.{request_of}

@@ -1,13 +1,12 @@
 -- What is found in the bytes that a reader keeps, where it keeps what others came to in their place.
 use Rattle.std.specs.Prelude.{ℕ, ◌≡◌, ◌+◌, Bool, List, ◌++◌, drop}
 use Rattle.unit_types.specs.declared.message.Request.{Request}
-use Rattle.http_front.specs.declared.progress.Framing.{Framing}
+use Rattle.http_front.specs.declared.framing.Framing.{Framing}
 use Rattle.http_front.specs.declared.content.Content.{Content}
 use Rattle.http_front.specs.declared.content.Content.TheVariants.{Whole, Refused, Open}
 use Rattle.http_front.specs.Message.{Message}
 use Rattle.http_front.specs.Chunks.{content_behind}
-use Rattle.http_front.specs.Content.{is_continue_due}
-use Rattle.http_front.specs.Progress.{content_by}
+use Rattle.http_front.specs.Content.{is_continue_due, content_by}
 use Rattle.http_front.specs.NextUnit.{Found, request, bad, cut, finished, wait, NextUnit, open_found, next_unit}
 
 -- the same unit so many bytes further back

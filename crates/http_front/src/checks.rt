@@ -2,14 +2,16 @@
 ghost use Rattle.std.specs.Prelude.{◌≡◌};
 ghost use Rattle.http_front.specs.Checks as spec;
 
-use crate::fields::{count_of, value_of};
+use crate::fields::count_of;
+use crate::framing::{has_coding, has_length, is_chunked, length_text};
 use crate::number::number_within;
 use crate::target::is_faulty_target;
 use unit_types::{Field, Request};
 
 /// The status of the first check that refuses a request, given the largest content that is taken.
 pub(crate) fn refusal_of(request: &Request, max_body: u64) -> Option<u16>
-    ensures { result ≡ spec.refusal_of max_body request.now.minor request.now.target request.now.fields }
+    ensures { result
+        ≡ spec.refusal_of max_body request.now.minor request.now.target request.now.fields }
 {
     let fields = request.fields.as_slice();
     if is_faulty_target(request.target.as_slice()) {
@@ -42,30 +44,10 @@ fn is_ambiguous(minor: u8, fields: &[Field]) -> bool
     has_coding(fields) && (has_length(fields) || minor == 0)
 }
 
-fn has_length(fields: &[Field]) -> bool
-    ensures { result ≡ spec.has_length fields.now }
-{
-    count_of(fields, b"content-length") > 0
-}
-
-fn has_coding(fields: &[Field]) -> bool
-    ensures { result ≡ spec.has_coding fields.now }
-{
-    count_of(fields, b"transfer-encoding") > 0
-}
-
 fn has_other_coding(fields: &[Field]) -> bool
     ensures { result ≡ spec.has_other_coding fields.now }
 {
     has_coding(fields) && !is_chunked(fields)
-}
-
-/// Whether the content comes in chunks.
-pub(crate) fn is_chunked(fields: &[Field]) -> bool
-    ensures { result ≡ spec.is_chunked fields.now }
-{
-    count_of(fields, b"transfer-encoding") == 1
-        && value_of(fields, b"transfer-encoding").eq_ignore_ascii_case(b"chunked")
 }
 
 fn has_faulty_length(fields: &[Field]) -> bool
@@ -85,13 +67,6 @@ fn has_digits(text: &[u8]) -> bool
     ensures { result ≡ spec.has_digits text.now }
 {
     text.iter().all(|b| b.is_ascii_digit())
-}
-
-/// The value of Content-Length, or nothing.
-pub(crate) fn length_text(fields: &[Field]) -> &[u8]
-    ensures { result.now ≡ spec.length_text fields.now }
-{
-    value_of(fields, b"content-length")
 }
 
 fn is_too_long(fields: &[Field], max_body: u64) -> bool

@@ -5,8 +5,8 @@ ghost use Rattle.http_front.specs.Front.{front_of};
 ghost use Rattle.unit_types.specs.Limits.{head_limit};
 ghost use Rattle.http_front.specs.ChunkLine.{chunk_size_of};
 
-use crate::block::{block_len, line_len};
-use crate::text::first_bytes;
+use crate::lines::{block_len, line_len};
+use crate::slices::first_bytes;
 use httparse::{Status, parse_chunk_size};
 use unit_types::HEAD_LIMIT;
 
@@ -40,7 +40,8 @@ pub(crate) fn first_chunk(room: u64, bytes: &[u8]) -> Chunk
 // the chunk behind a line of that many bytes
 fn line_chunk(room: u64, line: usize, bytes: &[u8]) -> Chunk
     requires { line ≤ length bytes.now }
-    ensures { result ≡ spec.line_chunk room line (drop line bytes.now) (chunk_size_of (take line bytes.now)) }
+    ensures { result
+        ≡ spec.line_chunk room line (drop line bytes.now) (chunk_size_of (take line bytes.now)) }
 {
     match chunk_size(&bytes[..line]) {
         Some(size) => sized_chunk(room, line, size, &bytes[line..]),

@@ -1,13 +1,13 @@
 //! The content behind a head (RFC 9112, sections 6.3 and 7.1).
 ghost use Rattle.std.specs.Prelude.{◌≡◌, IfOk};
-ghost use Rattle.http_front.specs.Checks.{number_of};
+ghost use Rattle.http_front.specs.Framing.{number_of};
 ghost use Rattle.http_front.specs.Chunks.{chunked_content};
 ghost use Rattle.http_front.specs.Content as spec;
 
-use crate::checks::{is_chunked, length_text};
 use crate::chunk::{Chunk, first_chunk};
+use crate::framing::{is_chunked, length_text};
 use crate::number::number_within;
-use crate::text::{behind, first_bytes};
+use crate::slices::{behind, first_bytes};
 use std::alloc::{AllocError, Global};
 use unit_types::{Bytes, Field, Request};
 
@@ -40,7 +40,8 @@ pub(crate) fn content_of(
 
 // the content whose length these digits write
 fn sized_content(alloc: Global, digits: &[u8], bytes: &[u8]) -> Result<Content, AllocError>
-    ensures { IfOk result (λ content. content ≡ spec.sized_content (number_of digits.now) bytes.now) }
+    ensures { IfOk result
+        (λ content. content ≡ spec.sized_content (number_of digits.now) bytes.now) }
 {
     match number_within(digits, bytes.len() as u64) {
         Some(len) => {

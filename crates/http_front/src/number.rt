@@ -1,6 +1,6 @@
 //! Numbers in decimal digits.
 ghost use Rattle.std.specs.Prelude.{◌≡◌, ◌<◌, ◌≤◌, IfSome, IfNone};
-ghost use Rattle.http_front.specs.Checks.{number_of};
+ghost use Rattle.http_front.specs.Framing.{number_of};
 
 /// The number that the digits write, where it is at most `limit`.
 pub(crate) fn number_within(digits: &[u8], limit: u64) -> Option<u64>

@@ -1,26 +1,16 @@
 //! What is known of the bytes at the front of a connection's input, while more are needed.
-ghost use Rattle.std.specs.Prelude.{◌≡◌, ◌<◌, ◌≤◌, ℕ, Bool, length, IfSome, IfNone};
-ghost use Rattle.http_front.specs.Checks.{content_length};
+ghost use Rattle.std.specs.Prelude.{◌≡◌, ◌<◌, ◌≤◌, ℕ, Bool, length, IfSome};
+ghost use Rattle.http_front.specs.Framing.{content_length, framing_of};
 ghost use Rattle.http_front.specs.Progress as spec;
 ghost use Rattle.http_front.specs.Progress.{IsSearched, IsWithin, HeadOver, ContentMoves, Moves, Tells};
 ghost use Rattle.http_front.specs.declared.progress.Progress.TheVariants.{Content};
-ghost use Rattle.http_front.specs.declared.progress.Framing.TheVariants.{Length, Chunks};
+ghost use Rattle.http_front.specs.declared.framing.Framing.TheVariants.{Length, Chunks};
 
-use crate::checks::{is_chunked, length_text};
 use crate::chunk::{Chunk, first_chunk};
-use crate::number::number_within;
+use crate::framing::{Framing, framing_of};
 use crate::search::{Search, search_on};
-use crate::text::behind;
+use crate::slices::behind;
 use unit_types::{Field, HEAD_LIMIT};
-
-/// How the content behind a head is framed (RFC 9112, section 6).
-#[derive(Clone, Copy, Debug, PartialEq, Eq, Drop)]
-pub(crate) enum Framing {
-    /// It has so many bytes.
-    Length(u64),
-    /// It comes in chunks, of which at most so many bytes are taken.
-    Chunks(u64),
-}
 
 /// How far the reading of the request at the front has come.
 #[derive(Clone, Copy, Debug, PartialEq, Eq, Drop)]
@@ -48,25 +38,12 @@ pub(crate) fn head_progress(bytes: &[u8]) -> Progress
 
 /// The progress behind a head of so many bytes with these fields, given the largest content that is taken.
 pub(crate) fn content_progress(used: usize, max_body: u64, fields: &[Field]) -> Progress
-    ensures { content_length fields.now ≤ max_body → result ≡ Content used (spec.framing_of max_body fields.now) }
+    ensures { content_length fields.now ≤ max_body
+        → result ≡ Content used (framing_of max_body fields.now) }
 {
     match framing_of(max_body, fields) {
         Some(framing) => Progress::Content(used, framing),
         None => Progress::START,
-    }
-}
-
-// the framing of a content, where it says no length above the largest
-fn framing_of(max_body: u64, fields: &[Field]) -> Option<Framing>
-    ensures is { IfSome result (λ framing. framing ≡ spec.framing_of max_body fields.now) }
-    ensures none { IfNone result (max_body < content_length fields.now) }
-{
-    if is_chunked(fields) {
-        return Some(Framing::Chunks(max_body));
-    }
-    match number_within(length_text(fields), max_body) {
-        Some(len) => Some(Framing::Length(len)),
-        None => None,
     }
 }
 

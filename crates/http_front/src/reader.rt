@@ -3,29 +3,12 @@ ghost use Rattle.std.specs.Prelude.{◌≡◌, ◌&&◌, not, [], true, false, �
 ghost use Rattle.http_front.specs.Kept.{HasRead, fed, at_end, kept_answer, kept_next, Unchanged};
 ghost use Rattle.http_front.specs.Reading.{Reading, reading_of, has_begun, limit_or, kept_limit, is_request, next_answer, next_reading};
 
-use crate::front::read_front;
+use crate::next_unit::{Next, read_front};
 use crate::progress::{Progress, progress_over};
-use crate::text::behind;
+use crate::slices::behind;
 use std::alloc::{AllocError, Global};
 use std::marker::Model;
-use unit_types::{Addr, Bytes, Request};
-
-/// What a reader finds next in its bytes.
-#[derive(Debug, Drop)]
-pub enum Next {
-    /// The client waits for `100 Continue` before it sends the content of a request.
-    Continue,
-    /// A whole request.
-    Request(Request),
-    /// More bytes are needed, and may come.
-    NeedMore,
-    /// The bytes are refused with that status, and the connection is to be closed.
-    Bad(u16),
-    /// The input ended, and only empty lines are left of it.
-    End,
-    /// The input ended inside a request.
-    Cut,
-}
+use unit_types::{Addr, Bytes};
 
 /// Reads the requests of a connection from its bytes, in whatever pieces they come.
 ///
@@ -99,7 +82,8 @@ impl Reader {
     /// Fails for want of memory alone; the reader has then read what it had before.
     pub fn feed(&mut self, alloc: Global, piece: &[u8]) -> Result<(), AllocError>
         requires { self.old.ended ≡ false }
-        ensures ok { OnOk result ((r : Reading) → HasRead r self.old → HasRead (fed r piece.now) self.new) }
+        ensures ok { OnOk result
+            ((r : Reading) → HasRead r self.old → HasRead (fed r piece.now) self.new) }
         ensures err { OnErr result ((r : Reading) → HasRead r self.old → HasRead r self.new) }
         ensures ended { self.new.ended ≡ self.old.ended }
     {
@@ -157,8 +141,10 @@ impl Reader {
     /// calls leave it. Fails for want of memory alone; the reader has then read what it had before.
     #[inline(always)]
     pub fn next(&mut self, alloc: Global, max_body: u64) -> Result<Next, AllocError>
-        ensures answer { IfOk result (λ answer. (r : Reading) → HasRead r self.old → answer ≡ next_answer r max_body) }
-        ensures ok { OnOk result ((r : Reading) → HasRead r self.old → HasRead (next_reading r max_body) self.new) }
+        ensures answer { IfOk result
+            (λ answer. (r : Reading) → HasRead r self.old → answer ≡ next_answer r max_body) }
+        ensures ok { OnOk result
+            ((r : Reading) → HasRead r self.old → HasRead (next_reading r max_body) self.new) }
         ensures err { OnErr result ((r : Reading) → HasRead r self.old → HasRead r self.new) }
         ensures ended { self.new.ended ≡ self.old.ended }
     {

@@ -22,7 +22,8 @@ pub(crate) fn request_of(
 ) -> Result<Request, AllocError>
     requires at { IsRequestAt block.now headers.now spans.now (head_in block.now) }
     requires within { IsRequestWithin block.now headers.now spans.now }
-    ensures { IfOk result (λ r. r ≡ spec.request_of from to (spec.message_of (head_in block.now) [])) }
+    ensures { IfOk result
+        (λ r. r ≡ spec.request_of from to (spec.message_of (head_in block.now) [])) }
 {
     let target = spans.path.of(block);
     let fields = fields_of(alloc, block, &headers[..spans.headers])?;

@@ -4,8 +4,8 @@ ghost use Rattle.std.specs.List.{position};
 ghost use Rattle.http_front.specs.Head.{is_line_feed};
 ghost use Rattle.http_front.specs.Progress.{IsSearched};
 
-use crate::block::{blank_len, feed_place, is_empty_line};
-use crate::text::behind;
+use crate::lines::{blank_len, feed_place, is_empty_line};
+use crate::slices::behind;
 
 /// How far the search for the end of the head at the front of some bytes has come.
 #[derive(Clone, Copy, Debug, PartialEq, Eq, Drop)]
@@ -29,7 +29,8 @@ impl Search {
     /// The same behind the empty lines that it has passed.
     pub(crate) fn from_blank(self) -> Search
         requires { (self.blank ≤ self.line) × (self.blank ≤ self.searched) }
-        ensures { result ≡ record { blank = 0; line = self.line - self.blank; searched = self.searched - self.blank } }
+        ensures { result
+            ≡ record { blank = 0; line = self.line - self.blank; searched = self.searched - self.blank } }
     {
         Search {
             blank: 0,

@@ -3,7 +3,7 @@ ghost use Rattle.std.specs.Prelude.{◌≡◌, ◌<◌, length, position, drop, 
 ghost use Rattle.std.specs.List.{before_first, after_first, position_or_len};
 ghost use Rattle.http_front.specs.Target as spec;
 
-use crate::text::{behind, first_bytes};
+use crate::slices::{behind, first_bytes};
 use percent_encoding::percent_decode;
 
 /// Whether the target is refused: it has a byte that is no visible ASCII, is of no form that is served, or has a path with

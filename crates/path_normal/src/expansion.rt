@@ -101,7 +101,8 @@ pub fn expand(
 
 /// Puts a value behind the bytes.
 fn append_value(out: &mut Vec<u8>, value: Value<'_>, escapes: bool) -> Result<(), AllocError>
-    ensures { OnOk result (out.new.items ≡ out.old.items ++ shown escapes (value_left value.entry)) }
+    ensures { OnOk result
+        (out.new.items ≡ out.old.items ++ shown escapes (value_left value.entry)) }
 {
     for byte in value {
         if escapes {

@@ -19,7 +19,8 @@ pub fn normal_path_has_plain_segments()
 
 /// The segments of a normal path, joined, are that path, also where it has a `%`.
 pub fn normal_path_joins_its_segments()
-    ensures { (raw : List ℕ) → joined_segments (segments_of (normal_path_of raw)) ≡ normal_path_of raw }
+    ensures { (raw : List ℕ)
+        → joined_segments (segments_of (normal_path_of raw)) ≡ normal_path_of raw }
 {}
 
 /// A normal path without `%` is its own normal path.

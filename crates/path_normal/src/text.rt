@@ -96,7 +96,8 @@ impl Iterator for TextBytes<'_> {
 
 /// The first byte that a part of a query spells, and the part behind its spelling.
 fn next_decoded(text: &[u8]) -> Option<(u8, &[u8])>
-    ensures { MatchOption result (text.now ≡ []) (λ x. query_text text.now ≡ x.0 ∷ query_text x.1.now) }
+    ensures { MatchOption result (text.now ≡ [])
+        (λ x. query_text text.now ≡ x.0 ∷ query_text x.1.now) }
 {
     if let Some(byte) = escape_at(text) {
         return Some((byte, &text[3..]));

@@ -1,8 +1,9 @@
 -- Address patterns, as a configuration's `source` and `destination` have them.
-use Rattle.std.specs.Prelude.{ℕ, ◌+◌, ◌*◌, ◌-◌, ◌^◌, ◌%◌, Bool, true, false, not, ◌&&◌, ◌||◌, ◌==◌, nat_le, nat_eq, List, [], ◌∷◌, fold, Option, Some, None, option_and_then, option_map, position, take, drop, if◌then◌else◌}
+use Rattle.std.specs.Prelude.{ℕ, ◌+◌, ◌*◌, ◌-◌, ◌^◌, ◌%◌, Bool, true, false, not, ◌&&◌, ◌||◌, ◌==◌, nat_le, nat_eq, List, [], ◌∷◌, Option, Some, None, option_and_then, drop, if◌then◌else◌}
 use Rattle.std.specs.List.{list_any, list_all, starts_with}
-use Rattle.std.specs.Char.{is_ascii_digit}
 use Rattle.unit_types.specs.declared.message.Addr.{Addr}
+use Rattle.unit_types.specs.Numeral.{decimal_within}
+use Rattle.unit_types.specs.Text.{cut}
 use Rattle.pattern_addr.specs.declared.grammar.Range.{Range}
 
 -- the addresses and the ports that a pattern names, and whether it is negated
@@ -11,28 +12,12 @@ pub record AddressPattern : Type 0 where
   pub addresses : Range
   pub ports : Range
 
--- ---- what a pattern's text means
+-- ---- what a pattern's text means; its numbers are decimal digits, one or more, leading zeros too
 
 -- one step after another, each of which may find that the text has not the form
 infixl 10 ◌>>=◌
 abbrev pub ◌>>=◌ : {A B : Type 0} → Option A → (A → Option B) → Option B
 o >>= f = option_and_then f o
-
--- the text in front of the first separator and the text behind it, where there is a separator
-abbrev pub cut : ℕ → List ℕ → Option (List ℕ × List ℕ)
-cut separator text = option_map (λ at. (take at text, drop (at + 1) text)) (position (λ b. b == separator) text)
-
--- the number that decimal digits spell
-abbrev pub decimal_value : List ℕ → ℕ
-decimal_value digits = fold (λ value digit. value * 10 + (digit - 48)) 0 digits
-
--- a number: one digit or more, leading zeros too, of a value of at most `limit`
-abbrev pub number_of : ℕ → List ℕ → Option ℕ
-number_of limit [] = None
-number_of limit (d ∷ ds) =
-    if list_all is_ascii_digit (d ∷ ds) && nat_le (decimal_value (d ∷ ds)) limit
-    then Some (decimal_value (d ∷ ds))
-    else None
 
 -- an address: four numbers up to 255 with periods between them; the first one stands in the highest eight bits
 unfoldable pub address_of : List ℕ → Option ℕ
@@ -40,10 +25,10 @@ address_of text = do
   first ← cut 46 text
   second ← cut 46 first.1
   third ← cut 46 second.1
-  a ← number_of 255 first.0
-  b ← number_of 255 second.0
-  c ← number_of 255 third.0
-  d ← number_of 255 third.1
+  a ← decimal_within 255 first.0
+  b ← decimal_within 255 second.0
+  c ← decimal_within 255 third.0
+  d ← decimal_within 255 third.1
   Some (((a * 256 + b) * 256 + c) * 256 + d)
 
 -- the addresses that agree with this one in their first `length` bits
@@ -57,7 +42,7 @@ block_of address length =
 unfoldable pub block_at : List ℕ × List ℕ → Option Range
 block_at parts = do
   address ← address_of parts.0
-  length ← number_of 32 parts.1
+  length ← decimal_within 32 parts.1
   Some (block_of address length)
 
 -- `A-B`: from an address to an address
@@ -96,7 +81,7 @@ addresses_of text =
 -- a port: 1 to 65535
 abbrev pub port_of : List ℕ → Option ℕ
 port_of text = do
-  port ← number_of 65535 text
+  port ← decimal_within 65535 text
   if port == 0 then None else Some port
 
 -- `p-q`: from a port to a port

@@ -1,8 +1,9 @@
 //! The parts of an address pattern, read from a text.
 ghost use Rattle.std.specs.Prelude.{◌≡◌, ◌≤◌, IfSome};
-ghost use Rattle.pattern_addr.specs.AddressPattern.{number_of, address_of, block_of, block_at, span_at, single_at, addresses_of, port_of, port_span_at, single_port_at, ports_of};
+ghost use Rattle.pattern_addr.specs.AddressPattern.{address_of, block_of, block_at, span_at, single_at, addresses_of, port_of, port_span_at, single_port_at, ports_of};
+ghost use Rattle.unit_types.specs.Numeral.{decimal_within};
 
-use unit_types::cut;
+use unit_types::{cut, decimal};
 
 /// The numbers from the first one to the last one; none where the first is above the last.
 #[derive(Debug, Clone, Copy, Drop)]
@@ -24,23 +25,11 @@ impl Range {
 
 /// The decimal number of at most `limit` that the text spells.
 fn number_of(text: &[u8], limit: u16) -> Option<u16>
-    ensures value { result ≡ number_of limit text.now }
+    ensures value { result ≡ decimal_within limit text.now }
     ensures small { IfSome result (λ n. n ≤ limit) }
 {
-    if text.is_empty() {
-        return None;
-    }
-    let mut value = 0u32;
-    for digit in text {
-        if !digit.is_ascii_digit() {
-            return None;
-        }
-        value = value * 10 + u32::from(*digit - b'0');
-        if value > u32::from(limit) {
-            return None;
-        }
-    }
-    u16::try_from(value).ok()
+    let number = decimal(text, u64::from(limit))?;
+    u16::try_from(number).ok()
 }
 
 /// The address that four numbers with periods between them spell.

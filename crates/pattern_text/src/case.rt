@@ -33,7 +33,8 @@ pub(crate) fn is_same(text: &[u8], other: &[u8], case: Case) -> bool
 
 /// Whether two texts are the same in lower case.
 fn is_same_ignoring_case(text: &[u8], other: &[u8]) -> bool
-    ensures { result ≡ bytes_eq (str_to_ascii_lowercase text.now) (str_to_ascii_lowercase other.now) }
+    ensures { result
+        ≡ bytes_eq (str_to_ascii_lowercase text.now) (str_to_ascii_lowercase other.now) }
 {
     if text.len() != other.len() {
         return false;

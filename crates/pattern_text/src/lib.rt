@@ -17,7 +17,8 @@ pub use patterns::TextPatterns;
 /// A pattern without `!` matches exactly the texts that can be cut into its literal parts, in order, with any bytes,
 /// also none, at each star.
 pub fn matches_where_cut()
-    ensures { (pattern text : List ℕ) → (text_matches pattern text ≡ true) ↔ TextMatches pattern text }
+    ensures { (pattern text : List ℕ)
+        → (text_matches pattern text ≡ true) ↔ TextMatches pattern text }
 {}
 
 #[cfg(test)]

@@ -84,7 +84,8 @@ fn text_holds(patterns: &Option<TextPatterns>, text: &[u8]) -> bool
 }
 
 fn lower_text_holds(patterns: &Option<TextPatterns>, text: &[u8]) -> bool
-    ensures { result ≡ holds_or_absent (λ asked. list_matches_ignoring_case asked text.now) patterns.now }
+    ensures { result
+        ≡ holds_or_absent (λ asked. list_matches_ignoring_case asked text.now) patterns.now }
 {
     match patterns {
         Some(patterns) => patterns.matches_ignoring_case(text),
@@ -103,7 +104,8 @@ fn address_holds(patterns: &Option<AddrPatterns>, addr: Addr) -> bool
 
 /// Whether some set of names holds.
 fn names_hold(sets: &Option<NamedSets>, source: Source<'_>) -> bool
-    ensures { result ≡ holds_or_absent (some_set_holds (test_of source.entry) (values_of source.entry)) sets.now }
+    ensures { result ≡ holds_or_absent (some_set_holds (test_of source.entry)
+        (values_of source.entry)) sets.now }
 {
     match sets {
         Some(sets) => some_set_holds(sets, source),

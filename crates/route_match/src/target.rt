@@ -38,11 +38,11 @@ pub enum Target {
 /// The listener is the one of exactly this name, else the one named `*:` and the same port, which is what stands behind
 /// the last `:`. Each pass is expanded with the request. A route takes its first step whose conditions hold.
 ///
-/// An application that the target names is there and has this timeout, and the step passes; a return is what the step
+/// An application that the target names is there and has this timeout, and the step passes to it; a return is what the step
 /// does, and has its status; a status without a step is 404 or 500 (`IsOutcome`).
 pub fn outcome(conf: &Conf, listener: &[u8], request: &Request) -> Outcome
     ensures outcome { result ≡ outcome_of conf.now listener.now request.now }
-    ensures facts { IsOutcome conf.now result }
+    ensures facts { IsOutcome conf.now request.now result }
 {
     // What holds of each configuration holds of where its passes lead.
     conf.is_kept();

@@ -137,7 +137,9 @@ fn step_taken<'a>(
     count: usize,
     request: &Request,
 ) -> Option<(usize, &'a Step)>
-    ensures { MatchOption result (step_taken conf.now request.now first count ≡ None) (λ taken. (step_taken conf.now request.now first count ≡ Some (taken.0, taken.1.now)) × (slice_get conf.now.steps taken.0 ≡ Some taken.1.now)) }
+    ensures { MatchOption result (step_taken conf.now request.now first count ≡ None)
+        (λ taken. (step_taken conf.now request.now first count ≡ Some (taken.0, taken.1.now))
+        × (slice_get conf.now.steps taken.0 ≡ Some taken.1.now)) }
 {
     let steps = conf.steps().get(first..)?;
     for (at, step) in steps.iter().enumerate() {

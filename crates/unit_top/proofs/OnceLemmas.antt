@@ -2,8 +2,8 @@
 use Rattle.std.proofs.Common.{ℕ, zero, suc, ◌-◌, ◌<◌, ◌≤◌, ◌≡◌, ◌++◌, ◌||◌, ◌&&◌, ◌==◌, ◌∙◌, not, sym, ap, arith, refl, ◌⊎◌, inl, inr, List, [], Bool, true, false, drop, Option, None}
 use Rattle.std.proofs.lemmas.List.{append_assoc, append-nil}
 use Rattle.unit_types.specs.declared.message.Request.{Request}
-use Rattle.http_front.specs.declared.reader.Next.{Next}
-use Rattle.http_front.specs.declared.reader.Next.TheVariants as Answer
+use Rattle.http_front.specs.declared.next_unit.Next.{Next}
+use Rattle.http_front.specs.declared.next_unit.Next.TheVariants as Answer
 use Rattle.http_front.specs.Front.{head_begun}
 use Rattle.http_front.specs.Message.{request_of, is_last_request}
 use Rattle.http_front.specs.NextUnit.{Found, request, bad, cut, finished, wait, NextUnit, next_unit}

@@ -19,7 +19,8 @@ fn is_name(names: &[Bytes], name: &[u8]) -> bool
 
 /// The handler for which the words `once HANDLER` ask, where they are that form and a handler has that name.
 pub fn once_handler<'a>(names: &[Bytes], words: &'a [String]) -> Option<&'a [u8]>
-    ensures some { IfSome result (λ handler. command_of names.now (map string_bytes words.now) ≡ Some (Once handler.now)) }
+    ensures some { IfSome result
+        (λ handler. command_of names.now (map string_bytes words.now) ≡ Some (Once handler.now)) }
     ensures none { IfNone result (command_of names.now (map string_bytes words.now) ≡ None) }
 {
     match words {

@@ -23,11 +23,16 @@ fn run_once<S: Source, K: Sink, H: Handlers>(
 ) -> Result<(), Stop>
     ensures used { status_in result ≢ 2 }
     ensures stops { IfErr result (λ stop. IsCommandStop stop) }
-    ensures ended { status_in result ≡ 0 → (input : List ℕ) → S.left src.old ≡ Some input → S.left src.new ≡ Some [] }
-    ensures output { (input : List ℕ) → S.left src.old ≡ Some input → Leaves (status_in result) (K.written out.old) (K.written out.new) (once_of H.reply_of handler.now input) }
+    ensures ended { status_in result ≡ 0 → (input : List ℕ) → S.left src.old ≡ Some input
+        → S.left src.new ≡ Some [] }
+    ensures output { (input : List ℕ) → S.left src.old ≡ Some input
+        → Leaves (status_in result) (K.written out.old) (K.written out.new)
+        (once_of H.reply_of handler.now input) }
     ensures silent { IsSilent (status_in result) → K.written out.new ≡ K.written out.old }
-    ensures causes { HasCauses (status_in result) (S.faults src.old) (S.faults src.new) (K.faults out.old) (K.faults out.new) }
-    ensures too_long { (input : List ℕ) → S.left src.old ≡ Some input → IsTooLong (status_in result) input }
+    ensures causes { HasCauses (status_in result) (S.faults src.old) (S.faults src.new)
+        (K.faults out.old) (K.faults out.new) }
+    ensures too_long { (input : List ℕ) → S.left src.old ≡ Some input
+        → IsTooLong (status_in result) input }
 {
     let input = match read_all(alloc, src) {
         Ok(input) => input,
@@ -45,7 +50,8 @@ fn run_once<S: Source, K: Sink, H: Handlers>(
 // Tells why the command ended, as far as `err` takes it, and gives the status.
 fn tell<E: Sink>(err: &mut E, stop: Stop) -> u8
     ensures status { result ≡ status_of stop }
-    ensures line { (Rose (E.faults err.old) (E.faults err.new) → ⊥) → Adds (E.written err.old) (E.written err.new) (line_of stop) }
+    ensures line { (Rose (E.faults err.old) (E.faults err.new) → ⊥)
+        → Adds (E.written err.old) (E.written err.new) (line_of stop) }
     ensures front { AddsFront (E.written err.old) (E.written err.new) (line_of stop) }
 {
     let _ = write_line(err, stop);
@@ -76,14 +82,22 @@ pub fn unit_top<S: Source, K: Sink, E: Sink, H: Handlers>(
     handlers: &H,
 ) -> u8
     ensures status { IsStatus result }
-    ensures usage { (result ≡ 2) ↔ (command_of (H.listed handlers.now) (map string_bytes words.now) ≡ None) }
-    ensures unread { result ≡ 2 → (S.left src.new ≡ S.left src.old) × (S.faults src.new ≡ S.faults src.old) }
-    ensures ended { result ≡ 0 → (input : List ℕ) → S.left src.old ≡ Some input → S.left src.new ≡ Some [] }
-    ensures output { (command : Command) → command_of (H.listed handlers.now) (map string_bytes words.now) ≡ Some command → (input : List ℕ) → S.left src.old ≡ Some input → Leaves result (K.written out.old) (K.written out.new) (output_of H.reply_of command input) }
+    ensures usage { (result ≡ 2) ↔
+        (command_of (H.listed handlers.now) (map string_bytes words.now) ≡ None) }
+    ensures unread { result ≡ 2
+        → (S.left src.new ≡ S.left src.old) × (S.faults src.new ≡ S.faults src.old) }
+    ensures ended { result ≡ 0 → (input : List ℕ) → S.left src.old ≡ Some input
+        → S.left src.new ≡ Some [] }
+    ensures output { (command : Command) → command_of (H.listed handlers.now)
+        (map string_bytes words.now) ≡ Some command → (input : List ℕ) → S.left src.old ≡ Some input
+        → Leaves result (K.written out.old) (K.written out.new)
+        (output_of H.reply_of command input) }
     ensures silent { IsSilent result → K.written out.new ≡ K.written out.old }
-    ensures causes { HasCauses result (S.faults src.old) (S.faults src.new) (K.faults out.old) (K.faults out.new) }
+    ensures causes { HasCauses result (S.faults src.old) (S.faults src.new) (K.faults out.old)
+        (K.faults out.new) }
     ensures too_long { (input : List ℕ) → S.left src.old ≡ Some input → IsTooLong result input }
-    ensures line { (Rose (E.faults err.old) (E.faults err.new) → ⊥) → Adds (E.written err.old) (E.written err.new) (line_of_status result) }
+    ensures line { (Rose (E.faults err.old) (E.faults err.new) → ⊥)
+        → Adds (E.written err.old) (E.written err.new) (line_of_status result) }
     ensures line_front { AddsFront (E.written err.old) (E.written err.new) (line_of_status result) }
 {
     let Some(handler) = once_handler(handlers.names(), words) else {

@@ -1,9 +1,9 @@
 //! What a configuration has by name, and where its passes lead.
-use crate::search::SliceBytes;
 use crate::tests::configuration;
 use crate::{Action, Conf, Current, Goal, is_log_format, port_of, port_text};
 use std::sync::Arc;
 use std::test::Fail;
+use unit_types::SliceBytes;
 
 fn is_route(goal: Option<Goal>, wanted_first: usize, wanted_count: usize) -> bool {
     match goal {
@@ -20,15 +20,11 @@ fn is_application(goal: Option<Goal>, wanted: usize) -> bool {
 }
 
 fn goal_of(conf: &Conf, text: &str) -> Option<Goal> {
-    conf.goal(SliceBytes {
-        rest: text.as_bytes(),
-    })
+    conf.goal(SliceBytes::of(text.as_bytes()))
 }
 
 fn listener_of(conf: &Conf, name: &str) -> Option<usize> {
-    conf.listener(SliceBytes {
-        rest: name.as_bytes(),
-    })
+    conf.listener(SliceBytes::of(name.as_bytes()))
 }
 
 /// Two applications, two listeners, and routes without names.

@@ -4,7 +4,7 @@ use Rattle.serde_json.specs.Data.{array, object}
 use Rattle.conf_tree.specs.Answers.{Appends}
 use Rattle.conf_tree.specs.Paths.{index_of, append}
 use Rattle.conf_tree.specs.View.{data_of, list_data, map_data, members_of, named}
-use Rattle.conf_tree.specs.declared.answers.Append.{Append}
+use Rattle.conf_tree.specs.declared.outcomes.Append.{Append}
 use Rattle.conf_tree.specs.declared.tree.Tree.TheViews.{roll-Member}
 use Rattle.conf_tree.specs.declared.tree.Member.{Member}
 use Rattle.conf_tree.specs.declared.tree.TreeMap.{out-TreeMap}

@@ -1,6 +1,6 @@
 use Rattle.std.proofs.Common.{◌≡◌, ◌∙◌, sym, ap, subst, IfOk}
 use Rattle.http_front.specs.declared.content.Content.{Content}
-use Rattle.http_front.specs.Checks.{number_of}
+use Rattle.http_front.specs.Framing.{number_of}
 use Rattle.http_front.specs.Content.{sized_content}
 use Rattle.http_front.proofs.ContentLemmas.{content_chunked, content_sized}
 use Rattle.http_front.proofs.content.content_of.Goals as goal

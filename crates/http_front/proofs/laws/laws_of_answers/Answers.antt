@@ -1,4 +1,7 @@
-use Rattle.http_front.proofs.AnswerLemmas.{ended_awaits_nothing, continue_once, told_now, told_once, told_stays, final_again, begun_now}
+use Rattle.std.proofs.Common.{◌∙◌, ap, sym, [], true}
+use Rattle.std.proofs.lemmas.List.{append-nil}
+use Rattle.http_front.specs.Reading.{Reading, next_answer, next_reading}
+use Rattle.http_front.proofs.AnswerLemmas.{ended_awaits_nothing, continue_once, told_now, told_once, told_stays, final_again, final_fed, begun_now}
 use Rattle.http_front.proofs.laws.laws_of_answers.Goals as goal
 
 pub returns-clause-needs : goal.returns-clause-needs
@@ -18,6 +21,14 @@ returns-clause-stays c r limit told none = told_stays r limit told none
 
 pub returns-clause-again : goal.returns-clause-again
 returns-clause-again c r limit again final = final_again r limit again final
+
+pub returns-clause-fed : goal.returns-clause-fed
+returns-clause-fed c r limit again more running final = final_fed r limit again more (next_reading r limit).ended running final
+
+pub returns-clause-over : goal.returns-clause-over
+returns-clause-over c r limit again running final =
+    let q : Reading = next_reading r limit in
+    ap (λ bytes. next_answer (record q { unread = bytes; ended = true }) again) (sym (append-nil q.unread)) ∙ final_fed r limit again [] true running final
 
 pub returns-clause-begun : goal.returns-clause-begun
 returns-clause-begun c r limit none = begun_now r limit none

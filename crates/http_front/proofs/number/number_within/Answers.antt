@@ -1,6 +1,6 @@
 use Rattle.std.proofs.Common.{◌∙◌, ◌<◌, ◌+◌, ◌-◌, ◌*◌, IfNone, ℕ, Option, drop, get_or, length, subst, sym, arith}
 use Rattle.std.proofs.lemmas.List.{at_drop_more}
-use Rattle.http_front.specs.Checks.{number_from, number_of}
+use Rattle.http_front.specs.Framing.{number_from, number_of}
 use Rattle.http_front.proofs.Numbers.{number_grows}
 use Rattle.http_front.proofs.number.number_within.Goals as goal
 

@@ -1,5 +1,5 @@
 use Rattle.std.proofs.Common.{◌≡◌, drop}
-use Rattle.http_front.specs.Checks.{number_from, number_of}
+use Rattle.http_front.specs.Framing.{number_from, number_of}
 use Rattle.http_front.proofs.number.number_within.Given as goal
 
 -- the digits that are left go on from the number so far
