@@ -1,5 +1,5 @@
 -- Look-ups of destinations by name, and the comparison of a name with bytes that come one by one.
-use Rattle.std.proofs.Common.{◌≡◌, ℕ, ◌+◌, ◌<◌, ◌≤◌, Bool, true, false, List, [], ◌∷◌, length, drop, get_or, Option, Some, None, option_map, if◌then◌else◌, Less, Equal, Greater, refl, sym, ap, ◌∙◌}
+use Rattle.std.proofs.Common.{◌≡◌, ℕ, ◌+◌, ◌<◌, ◌≤◌, Bool, true, false, List, [], ◌∷◌, length, drop, get_or, nat_lt, Option, Some, None, option_map, if◌then◌else◌, Less, Equal, Greater, refl, sym, ap, ◌∙◌}
 use Rattle.std.proofs.lemmas.Bool.{ltb-false}
 use Rattle.std.proofs.lemmas.List.{drop_all, drop_more}
 use Rattle.std.proofs.lemmas.List.Folds.{find_at}
@@ -20,11 +20,12 @@ has_name name d = bytes_eq d.name name
 
 goal_is : (name : List ℕ) (ds : List Destination) → goal_named name ds ≡ option_map (λ (d : Destination). d.goal) (find (has_name name) ds)
 goal_is name [] = refl
-goal_is name (d ∷ ds) = by_first (bytes_eq d.name name)
+goal_is name (d ∷ ds) = by_first (bytes_eq d.name name) (goal_is name ds)
   where
-    by_first : (b : Bool) → (if b then Some d.goal else goal_named name ds) ≡ option_map (λ (x : Destination). x.goal) (if b then Some d else find (has_name name) ds)
-    by_first true = refl
-    by_first false = goal_is name ds
+    by_first : (b : Bool) → goal_named name ds ≡ option_map (λ (x : Destination). x.goal) (find (has_name name) ds)
+        → (if b then Some d.goal else goal_named name ds) ≡ option_map (λ (x : Destination). x.goal) (if b then Some d else find (has_name name) ds)
+    by_first true later = refl
+    by_first false later = later
 
 -- the place at which the name stands first, or behind them
 abbrev first_place : List ℕ → List Destination → ℕ

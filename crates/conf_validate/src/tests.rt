@@ -85,13 +85,11 @@ fn accepts(rt: &(impl Abort + AllocGlobal), around: &Around, values: &[&str]) ->
     Ok(())
 }
 
-fn full() -> &'static str {
-    r#"{"access_log":{},"applications":{"a":{"executable":"hello","type":"external"},"b":{"executable":"count","limits":{"timeout":30},"type":"external"}},"routes":{"x":[{"action":{"location":"/$uri","return":301}}],"y":[{"action":{"return":404}},{"action":{"pass":"applications/a","response_headers":{"A":"b","c":null},"rewrite":"/v1$uri"}}]},"settings":{"http":{"max_body_size":7}}}"#
-}
+const FULL: &str =
+    r#"{"access_log":{},"applications":{"a":{"executable":"hello","type":"external"},"b":{"executable":"count","limits":{"timeout":30},"type":"external"}},"routes":{"x":[{"action":{"location":"/$uri","return":301}}],"y":[{"action":{"return":404}},{"action":{"pass":"applications/a","response_headers":{"A":"b","c":null},"rewrite":"/v1$uri"}}]},"settings":{"http":{"max_body_size":7}}}"#;
 
-fn default_format() -> &'static str {
-    r#"$remote_addr "$request_line" $status $body_bytes_sent "$header_referer" "$header_user_agent""#
-}
+const DEFAULT_FORMAT: &str =
+    r#"$remote_addr "$request_line" $status $body_bytes_sent "$header_referer" "$header_user_agent""#;
 
 fn configuration(alloc: Global, text: &str) -> Result<Conf, Fail> {
     let tree = document(alloc, text)?;
@@ -103,10 +101,10 @@ fn configuration(alloc: Global, text: &str) -> Result<Conf, Fail> {
 
 #[test]
 fn tells_what_a_document_says(rt: HostRuntime) -> Result<(), Fail> {
-    let conf = configuration(rt.alloc(), full())?;
+    let conf = configuration(rt.alloc(), FULL)?;
     assert!(rt; conf.max_body() == 7);
     let format = conf.log_format().expect(&rt, "a log");
-    assert!(rt; format == default_format().as_bytes());
+    assert!(rt; format == DEFAULT_FORMAT.as_bytes());
     assert!(rt; conf.location(0).expect(&rt, "a location") == b"/$uri".as_slice());
     assert!(rt; conf.location(1).is_none());
     assert!(rt; conf.location(3).is_none());
@@ -124,13 +122,12 @@ fn tells_what_a_document_says(rt: HostRuntime) -> Result<(), Fail> {
     Ok(())
 }
 
-fn matching() -> &'static str {
-    r#"{"routes":[{"action":{"return":1},"match":{"headers":[{"X-A":["b","!c"]},{}],"source":["*:80","!1.2.3.4"],"uri":"/a*"}}]}"#
-}
+const MATCHING: &str =
+    r#"{"routes":[{"action":{"return":1},"match":{"headers":[{"X-A":["b","!c"]},{}],"source":["*:80","!1.2.3.4"],"uri":"/a*"}}]}"#;
 
 #[test]
 fn parses_patterns_once(rt: HostRuntime) -> Result<(), Fail> {
-    let conf = configuration(rt.alloc(), matching())?;
+    let conf = configuration(rt.alloc(), MATCHING)?;
     assert!(rt; conf.steps().len() == 1);
     for step in conf.steps() {
         let asked = &step.conditions;

@@ -8,152 +8,128 @@ use unit_types::{Addr, Bytes, Request};
 /// The name of a row, its input, and what a reader says of it.
 type Row = (&'static str, &'static [u8], &'static [u8]);
 
-fn good() -> &'static [u8] {
-    b"GET / HTTP/1.1\r\nHost: a\r\n\r\n"
-}
+const GOOD: &[u8] = b"GET / HTTP/1.1\r\nHost: a\r\n\r\n";
 
-fn good_answer() -> &'static [u8] {
-    b"GET / ? a {host:a} \n"
-}
+const GOOD_ANSWER: &[u8] = b"GET / ? a {host:a} \n";
 
-fn client() -> Addr {
-    Addr {
-        ip: 0x7f00_0001,
-        port: 40000,
-    }
-}
+const CLIENT: Addr = Addr {
+    ip: 0x7f00_0001,
+    port: 40000,
+};
 
-fn server() -> Addr {
-    Addr {
-        ip: 0x7f00_0001,
-        port: 8080,
-    }
-}
+const SERVER: Addr = Addr {
+    ip: 0x7f00_0001,
+    port: 8080,
+};
 
-// heads that are refused
-fn faulty_heads() -> [Row; 9] {
-    [
-        (
-            "two hosts",
-            b"GET / HTTP/1.1\r\nHost: a\r\nHost: b\r\n\r\n",
-            b"400\n",
-        ),
-        ("no host", b"GET / HTTP/1.1\r\n\r\n", b"400\n"),
-        (
-            "length beside coding",
-            b"POST / HTTP/1.1\r\nHost: a\r\nContent-Length: 5\r\nTransfer-Encoding: chunked\r\n\r\n",
-            b"400\n",
-        ),
-        (
-            "another coding",
-            b"POST / HTTP/1.1\r\nHost: a\r\nTransfer-Encoding: gzip\r\n\r\n",
-            b"501\n",
-        ),
-        (
-            "a list of codings",
-            b"POST / HTTP/1.1\r\nHost: a\r\nTransfer-Encoding: gzip, chunked\r\n\r\n",
-            b"501\n",
-        ),
-        (
-            "a signed length",
-            b"POST / HTTP/1.1\r\nHost: a\r\nContent-Length: +5\r\n\r\n",
-            b"400\n",
-        ),
-        (
-            "chunks in 1.0",
-            b"POST / HTTP/1.0\r\nTransfer-Encoding: chunked\r\n\r\n",
-            b"400\n",
-        ),
-        (
-            "a length above the limit",
-            b"POST / HTTP/1.1\r\nHost: a\r\nContent-Length: 101\r\n\r\n",
-            b"413\n",
-        ),
-        (
-            "a folded line",
-            b"GET / HTTP/1.1\r\nHost: a\r\n b\r\n\r\n",
-            b"400\n",
-        ),
-    ]
-}
-
-// targets that are refused
-fn faulty_targets() -> [Row; 3] {
-    [
-        (
-            "a broken escape",
-            b"GET /%zz HTTP/1.1\r\nHost: a\r\n\r\n",
-            b"400\n",
-        ),
-        (
-            "a hidden NUL",
-            b"GET /%00 HTTP/1.1\r\nHost: a\r\n\r\n",
-            b"400\n",
-        ),
-        (
-            "asterisk-form",
-            b"OPTIONS * HTTP/1.1\r\nHost: a\r\n\r\n",
-            b"400\n",
-        ),
-    ]
-}
-
-// chunks that are refused
-fn faulty_chunks() -> [Row; 3] {
-    [
-        (
-            "no size",
-            b"POST / HTTP/1.1\r\nHost: a\r\nTransfer-Encoding: chunked\r\n\r\ng\r\n",
-            b"400\n",
-        ),
-        (
-            "a size above the limit",
-            b"POST / HTTP/1.1\r\nHost: a\r\nTransfer-Encoding: chunked\r\n\r\n65\r\n",
-            b"413\n",
-        ),
-        (
-            "an LF behind the data",
-            b"POST / HTTP/1.1\r\nHost: a\r\nTransfer-Encoding: chunked\r\n\r\n1\r\nx\n0\r\n\r\n",
-            b"400\n",
-        ),
-    ]
-}
+// what is refused: heads, targets and chunks
+const FAULTY: [Row; 15] = [
+    (
+        "two hosts",
+        b"GET / HTTP/1.1\r\nHost: a\r\nHost: b\r\n\r\n",
+        b"400\n",
+    ),
+    ("no host", b"GET / HTTP/1.1\r\n\r\n", b"400\n"),
+    (
+        "length beside coding",
+        b"POST / HTTP/1.1\r\nHost: a\r\nContent-Length: 5\r\nTransfer-Encoding: chunked\r\n\r\n",
+        b"400\n",
+    ),
+    (
+        "another coding",
+        b"POST / HTTP/1.1\r\nHost: a\r\nTransfer-Encoding: gzip\r\n\r\n",
+        b"501\n",
+    ),
+    (
+        "a list of codings",
+        b"POST / HTTP/1.1\r\nHost: a\r\nTransfer-Encoding: gzip, chunked\r\n\r\n",
+        b"501\n",
+    ),
+    (
+        "a signed length",
+        b"POST / HTTP/1.1\r\nHost: a\r\nContent-Length: +5\r\n\r\n",
+        b"400\n",
+    ),
+    (
+        "chunks in 1.0",
+        b"POST / HTTP/1.0\r\nTransfer-Encoding: chunked\r\n\r\n",
+        b"400\n",
+    ),
+    (
+        "a length above the limit",
+        b"POST / HTTP/1.1\r\nHost: a\r\nContent-Length: 101\r\n\r\n",
+        b"413\n",
+    ),
+    (
+        "a folded line",
+        b"GET / HTTP/1.1\r\nHost: a\r\n b\r\n\r\n",
+        b"400\n",
+    ),
+    (
+        "a broken escape",
+        b"GET /%zz HTTP/1.1\r\nHost: a\r\n\r\n",
+        b"400\n",
+    ),
+    (
+        "a hidden NUL",
+        b"GET /%00 HTTP/1.1\r\nHost: a\r\n\r\n",
+        b"400\n",
+    ),
+    (
+        "asterisk-form",
+        b"OPTIONS * HTTP/1.1\r\nHost: a\r\n\r\n",
+        b"400\n",
+    ),
+    (
+        "no size",
+        b"POST / HTTP/1.1\r\nHost: a\r\nTransfer-Encoding: chunked\r\n\r\ng\r\n",
+        b"400\n",
+    ),
+    (
+        "a size above the limit",
+        b"POST / HTTP/1.1\r\nHost: a\r\nTransfer-Encoding: chunked\r\n\r\n65\r\n",
+        b"413\n",
+    ),
+    (
+        "an LF behind the data",
+        b"POST / HTTP/1.1\r\nHost: a\r\nTransfer-Encoding: chunked\r\n\r\n1\r\nx\n0\r\n\r\n",
+        b"400\n",
+    ),
+];
 
 // requests that are read
-fn requests() -> [Row; 6] {
-    [
-        (
-            "a length",
-            b"POST /x HTTP/1.1\r\nHost: a\r\nContent-Length: 5\r\n\r\nhello",
-            b"POST /x ? a {host:a}{content-length:5} hello\n",
-        ),
-        (
-            "an empty content",
-            b"POST /x HTTP/1.1\r\nHost: a\r\nContent-Length: 0\r\n\r\n",
-            b"POST /x ? a {host:a}{content-length:0} \n",
-        ),
-        (
-            "chunks",
-            b"POST / HTTP/1.1\r\nHost: a\r\nTransfer-Encoding: Chunked\r\n\r\n5;x=y\r\nhello\r\n1 \r\n!\r\n0\r\nX: y\r\n\r\n",
-            b"POST / ? a {host:a}{transfer-encoding:Chunked} hello!\n",
-        ),
-        (
-            "an expectation",
-            b"POST / HTTP/1.1\r\nHost: a\r\nExpect: 100-Continue\r\nContent-Length: 2\r\n\r\nok",
-            b"continue\nPOST / ? a {host:a}{expect:100-Continue}{content-length:2} ok\n",
-        ),
-        (
-            "a path with dots",
-            b"\r\nGET /a//b/%2e%2e/c?d=/../e#f HTTP/1.1\r\nHost: A.:80\r\n\r\n",
-            b"GET /a/c ?d=/../e a {host:A.:80} \n",
-        ),
-        (
-            "absolute-form",
-            b"GET HTTP://Example.com:8080?q HTTP/1.1\r\nHost: \t b \r\n\r\n",
-            b"GET / ?q example.com {host:b} \n",
-        ),
-    ]
-}
+const REQUESTS: [Row; 6] = [
+    (
+        "a length",
+        b"POST /x HTTP/1.1\r\nHost: a\r\nContent-Length: 5\r\n\r\nhello",
+        b"POST /x ? a {host:a}{content-length:5} hello\n",
+    ),
+    (
+        "an empty content",
+        b"POST /x HTTP/1.1\r\nHost: a\r\nContent-Length: 0\r\n\r\n",
+        b"POST /x ? a {host:a}{content-length:0} \n",
+    ),
+    (
+        "chunks",
+        b"POST / HTTP/1.1\r\nHost: a\r\nTransfer-Encoding: Chunked\r\n\r\n5;x=y\r\nhello\r\n1 \r\n!\r\n0\r\nX: y\r\n\r\n",
+        b"POST / ? a {host:a}{transfer-encoding:Chunked} hello!\n",
+    ),
+    (
+        "an expectation",
+        b"POST / HTTP/1.1\r\nHost: a\r\nExpect: 100-Continue\r\nContent-Length: 2\r\n\r\nok",
+        b"continue\nPOST / ? a {host:a}{expect:100-Continue}{content-length:2} ok\n",
+    ),
+    (
+        "a path with dots",
+        b"\r\nGET /a//b/%2e%2e/c?d=/../e#f HTTP/1.1\r\nHost: A.:80\r\n\r\n",
+        b"GET /a/c ?d=/../e a {host:A.:80} \n",
+    ),
+    (
+        "absolute-form",
+        b"GET HTTP://Example.com:8080?q HTTP/1.1\r\nHost: \t b \r\n\r\n",
+        b"GET / ?q example.com {host:b} \n",
+    ),
+];
 
 // a request on one line but for its LF
 fn put_request(out: &mut Bytes, request: &Request) -> Result<(), AllocError> {
@@ -172,7 +148,7 @@ fn put_request(out: &mut Bytes, request: &Request) -> Result<(), AllocError> {
         out.append(field.value.as_slice())?;
         out.append(b"}")?;
     }
-    if request.from != client() || request.to != server() {
+    if request.from != CLIENT || request.to != SERVER {
         out.append(b" elsewhere")?;
     }
     out.append(b" ")?;
@@ -218,7 +194,7 @@ fn put_answers(rt: &HostRuntime, reader: &mut Reader, out: &mut Bytes) -> Result
 fn told(rt: &HostRuntime, input: &[u8], size: usize) -> Result<Bytes, AllocError>
     requires { 0 < size }
 {
-    let mut reader = Reader::open(rt.alloc(), client(), server())?;
+    let mut reader = Reader::open(rt.alloc(), CLIENT, SERVER)?;
     let mut out = Bytes::copy_of(rt.alloc(), b"")?;
     for piece in input.chunks(size) {
         reader.feed(rt.alloc(), piece)?;
@@ -255,15 +231,15 @@ fn is_told_so(rt: &HostRuntime, input: &[u8], wanted: &[u8]) -> Result<bool, All
 
 // whether the input is refused with that line, in any pieces, and nothing behind it is read
 fn refuses(rt: &HostRuntime, input: &[u8], wanted: &[u8]) -> Result<bool, AllocError> {
-    let longer = joined(rt, input, good())?;
+    let longer = joined(rt, input, GOOD)?;
     Ok(is_told_so(rt, input, wanted)? && is_told_so(rt, longer.as_slice(), wanted)?)
 }
 
 // whether the input is read as that, in any pieces, and a good request behind it as one more
 fn reads(rt: &HostRuntime, input: &[u8], wanted: &[u8]) -> Result<bool, AllocError> {
-    let longer = joined(rt, input, good())?;
+    let longer = joined(rt, input, GOOD)?;
     let ended = joined(rt, wanted, b"end\n")?;
-    let more = joined(rt, joined(rt, wanted, good_answer())?.as_slice(), b"end\n")?;
+    let more = joined(rt, joined(rt, wanted, GOOD_ANSWER)?.as_slice(), b"end\n")?;
     Ok(
         is_told_so(rt, input, ended.as_slice())?
             && is_told_so(rt, longer.as_slice(), more.as_slice())?,
@@ -271,29 +247,15 @@ fn reads(rt: &HostRuntime, input: &[u8], wanted: &[u8]) -> Result<bool, AllocErr
 }
 
 #[test]
-fn refuses_heads(rt: HostRuntime) {
-    for (name, input, wanted) in faulty_heads() {
-        assert!(rt; refuses(&rt, input, wanted).expect(&rt, "told"), "{name}");
-    }
-}
-
-#[test]
-fn refuses_targets(rt: HostRuntime) {
-    for (name, input, wanted) in faulty_targets() {
-        assert!(rt; refuses(&rt, input, wanted).expect(&rt, "told"), "{name}");
-    }
-}
-
-#[test]
-fn refuses_chunks(rt: HostRuntime) {
-    for (name, input, wanted) in faulty_chunks() {
+fn refuses_heads_and_chunks(rt: HostRuntime) {
+    for (name, input, wanted) in FAULTY {
         assert!(rt; refuses(&rt, input, wanted).expect(&rt, "told"), "{name}");
     }
 }
 
 #[test]
 fn reads_requests(rt: HostRuntime) {
-    for (name, input, wanted) in requests() {
+    for (name, input, wanted) in REQUESTS {
         assert!(rt; reads(&rt, input, wanted).expect(&rt, "told"), "{name}");
     }
 }
@@ -316,7 +278,7 @@ fn fielded(rt: &HostRuntime, count: usize) -> Result<Bytes, AllocError> {
 #[test]
 fn takes_a_hundred_fields(rt: HostRuntime) {
     let most = fielded(&rt, 100).expect(&rt, "made");
-    let mut reader = Reader::over(most, client(), server());
+    let mut reader = Reader::over(most, CLIENT, SERVER);
     match reader.next(rt.alloc(), 0).expect(&rt, "read") {
         Next::Request(request) => assert!(rt; request.fields.as_slice().len() == 100),
         _ => assert!(rt; false, "a hundred fields are refused"),
@@ -333,9 +295,7 @@ fn ends_and_cuts(rt: HostRuntime) {
     assert!(rt; is_told_so(&rt, cut, b"continue\ncut\n").expect(&rt, "told"));
 }
 
-fn chunked_head() -> &'static [u8] {
-    b"POST / HTTP/1.1\r\nHost: a\r\nTransfer-Encoding: chunked\r\n\r\n"
-}
+const CHUNKED_HEAD: &[u8] = b"POST / HTTP/1.1\r\nHost: a\r\nTransfer-Encoding: chunked\r\n\r\n";
 
 // what a reader says of the head of a content in chunks at the first limit, and of that line behind it at the second one
 fn says_of_chunk(
@@ -344,8 +304,8 @@ fn says_of_chunk(
     second: u64,
     line: &[u8],
 ) -> Result<Next, AllocError> {
-    let mut reader = Reader::open(rt.alloc(), client(), server())?;
-    reader.feed(rt.alloc(), chunked_head())?;
+    let mut reader = Reader::open(rt.alloc(), CLIENT, SERVER)?;
+    reader.feed(rt.alloc(), CHUNKED_HEAD)?;
     reader.next(rt.alloc(), first)?;
     reader.feed(rt.alloc(), line)?;
     reader.next(rt.alloc(), second)
@@ -378,7 +338,7 @@ fn feed_empty_lines(rt: &HostRuntime, reader: &mut Reader, pieces: u32) -> Resul
 
 #[test]
 fn lets_empty_lines_go(rt: HostRuntime) {
-    let mut reader = Reader::open(rt.alloc(), client(), server()).expect(&rt, "opened");
+    let mut reader = Reader::open(rt.alloc(), CLIENT, SERVER).expect(&rt, "opened");
     assert!(rt; feed_empty_lines(&rt, &mut reader, 1000).expect(&rt, "fed"));
     assert!(rt; reader.kept_len() <= 20);
     assert!(rt; !reader.has_begun());

@@ -47,16 +47,14 @@ struct Parts {
     fields: &'static [(&'static [u8], &'static [u8])],
 }
 
-fn asked() -> Parts {
-    Parts {
-        method: b"GET",
-        target: b"/",
-        path: b"/",
-        query: b"",
-        host: b"a",
-        fields: &[],
-    }
-}
+const ASKED: Parts = Parts {
+    method: b"GET",
+    target: b"/",
+    path: b"/",
+    query: b"",
+    host: b"a",
+    fields: &[],
+};
 
 fn fields_of(alloc: Global, list: &[(&[u8], &[u8])]) -> Result<Fields, AllocError> {
     let mut fields = Vec::new(alloc);
@@ -91,81 +89,71 @@ fn request_of(alloc: Global, asked: &Parts) -> Result<Request, AllocError> {
 }
 
 /// `GET /a/b?x=1&y=2&x=3` with some fields, from 127.0.0.1 to 10.1.2.3.
-fn busy() -> Parts {
-    Parts {
-        method: b"GET",
-        target: b"/a/b?x=1&y=2&x=3",
-        path: b"/a/b",
-        query: b"x=1&y=2&x=3",
-        host: b"www.a.com",
-        fields: busy_fields(),
-    }
-}
+const BUSY: Parts = Parts {
+    method: b"GET",
+    target: b"/a/b?x=1&y=2&x=3",
+    path: b"/a/b",
+    query: b"x=1&y=2&x=3",
+    host: b"www.a.com",
+    fields: BUSY_FIELDS,
+};
 
-fn busy_fields() -> &'static [(&'static [u8], &'static [u8])] {
-    &[
-        (b"accept", b"Text/HTML"),
-        (b"x-tag", b"one"),
-        (b"x-tag", b"Two"),
-        (b"cookie", b"k=v; l=W"),
-    ]
-}
+const BUSY_FIELDS: &[(&[u8], &[u8])] = &[
+    (b"accept", b"Text/HTML"),
+    (b"x-tag", b"one"),
+    (b"x-tag", b"Two"),
+    (b"cookie", b"k=v; l=W"),
+];
 
 // ---- conditions
 
 /// Conditions, and whether the busy request meets them.
-fn texts() -> &'static [(&'static str, bool)] {
-    &[
-        (r#"{}"#, true),
-        (r#"{"uri":"/a/*"}"#, true),
-        (r#"{"uri":"/A/*"}"#, false),
-        (r#"{"uri":["/b","!/c"]}"#, false),
-        (r#"{"uri":["!/c","!/d"]}"#, true),
-        (r#"{"uri":[]}"#, true),
-        (r#"{"host":"*.A.com"}"#, true),
-        (r#"{"host":"a.com"}"#, false),
-        (r#"{"method":["POST","get"]}"#, true),
-        (r#"{"method":"POST"}"#, false),
-        (r#"{"scheme":"HTTP"}"#, true),
-        (r#"{"scheme":"https"}"#, false),
-        (r#"{"query":"x=1&*"}"#, true),
-        (r#"{"query":"X=1&*"}"#, false),
-        (r#"{"uri":"/a/b","query":"z"}"#, false),
-    ]
-}
+const TEXTS: &[(&str, bool)] = &[
+    (r#"{}"#, true),
+    (r#"{"uri":"/a/*"}"#, true),
+    (r#"{"uri":"/A/*"}"#, false),
+    (r#"{"uri":["/b","!/c"]}"#, false),
+    (r#"{"uri":["!/c","!/d"]}"#, true),
+    (r#"{"uri":[]}"#, true),
+    (r#"{"host":"*.A.com"}"#, true),
+    (r#"{"host":"a.com"}"#, false),
+    (r#"{"method":["POST","get"]}"#, true),
+    (r#"{"method":"POST"}"#, false),
+    (r#"{"scheme":"HTTP"}"#, true),
+    (r#"{"scheme":"https"}"#, false),
+    (r#"{"query":"x=1&*"}"#, true),
+    (r#"{"query":"X=1&*"}"#, false),
+    (r#"{"uri":"/a/b","query":"z"}"#, false),
+];
 
-fn addresses() -> &'static [(&'static str, bool)] {
-    &[
-        (r#"{"source":"127.0.0.0/8"}"#, true),
-        (r#"{"source":"!127.0.0.0/8"}"#, false),
-        (r#"{"source":"*:40000"}"#, true),
-        (r#"{"source":"10.1.2.3"}"#, false),
-        (r#"{"destination":["10.1.2.3:8080"]}"#, true),
-        (r#"{"destination":"*:8081-9000"}"#, false),
-    ]
-}
+const ADDRESSES: &[(&str, bool)] = &[
+    (r#"{"source":"127.0.0.0/8"}"#, true),
+    (r#"{"source":"!127.0.0.0/8"}"#, false),
+    (r#"{"source":"*:40000"}"#, true),
+    (r#"{"source":"10.1.2.3"}"#, false),
+    (r#"{"destination":["10.1.2.3:8080"]}"#, true),
+    (r#"{"destination":"*:8081-9000"}"#, false),
+];
 
-fn names() -> &'static [(&'static str, bool)] {
-    &[
-        (r#"{"arguments":{"x":"3"}}"#, true),
-        (r#"{"arguments":{"x":"2"}}"#, false),
-        (r#"{"arguments":{"x":"1","y":"2"}}"#, true),
-        (r#"{"arguments":{"x":"1","z":"*"}}"#, false),
-        (r#"{"arguments":{"z":"!a"}}"#, false),
-        (r#"{"arguments":{}}"#, true),
-        (r#"{"arguments":[]}"#, false),
-        (r#"{"arguments":[{"z":"1"},{"y":"2"}]}"#, true),
-        (r#"{"arguments":[{"z":"1"},{"y":"3"}]}"#, false),
-        (r#"{"cookies":{"l":"W"}}"#, true),
-        (r#"{"cookies":{"l":"w"}}"#, false),
-        (r#"{"cookies":{"L":"W"}}"#, false),
-        (r#"{"headers":{"X-Tag":"two"}}"#, true),
-        (r#"{"headers":{"x-tag":["!one","!two"]}}"#, false),
-        (r#"{"headers":{"Accept":"text/*"}}"#, true),
-        (r#"{"headers":{"Accept":"text"}}"#, false),
-        (r#"{"headers":[]}"#, false),
-    ]
-}
+const NAMES: &[(&str, bool)] = &[
+    (r#"{"arguments":{"x":"3"}}"#, true),
+    (r#"{"arguments":{"x":"2"}}"#, false),
+    (r#"{"arguments":{"x":"1","y":"2"}}"#, true),
+    (r#"{"arguments":{"x":"1","z":"*"}}"#, false),
+    (r#"{"arguments":{"z":"!a"}}"#, false),
+    (r#"{"arguments":{}}"#, true),
+    (r#"{"arguments":[]}"#, false),
+    (r#"{"arguments":[{"z":"1"},{"y":"2"}]}"#, true),
+    (r#"{"arguments":[{"z":"1"},{"y":"3"}]}"#, false),
+    (r#"{"cookies":{"l":"W"}}"#, true),
+    (r#"{"cookies":{"l":"w"}}"#, false),
+    (r#"{"cookies":{"L":"W"}}"#, false),
+    (r#"{"headers":{"X-Tag":"two"}}"#, true),
+    (r#"{"headers":{"x-tag":["!one","!two"]}}"#, false),
+    (r#"{"headers":{"Accept":"text/*"}}"#, true),
+    (r#"{"headers":{"Accept":"text"}}"#, false),
+    (r#"{"headers":[]}"#, false),
+];
 
 /// The conditions in a document of one step.
 fn with_conditions(alloc: Global, conditions: &str) -> Result<Conf, Fail> {
@@ -177,7 +165,7 @@ fn with_conditions(alloc: Global, conditions: &str) -> Result<Conf, Fail> {
 }
 
 fn meets(rt: &(impl Abort + AllocGlobal), rows: &[(&'static str, bool)]) -> Result<(), Fail> {
-    let request = request_of(rt.alloc(), &busy())?;
+    let request = request_of(rt.alloc(), &BUSY)?;
     for (conditions, wanted) in rows {
         let conf = with_conditions(rt.alloc(), conditions)?;
         let step = conf.steps().first().expect(rt, "a step");
@@ -191,17 +179,17 @@ fn meets(rt: &(impl Abort + AllocGlobal), rows: &[(&'static str, bool)]) -> Resu
 
 #[test]
 fn texts_are_compared(rt: HostRuntime) -> Result<(), Fail> {
-    meets(&rt, texts())
+    meets(&rt, TEXTS)
 }
 
 #[test]
 fn addresses_are_compared(rt: HostRuntime) -> Result<(), Fail> {
-    meets(&rt, addresses())
+    meets(&rt, ADDRESSES)
 }
 
 #[test]
 fn values_of_names_are_compared(rt: HostRuntime) -> Result<(), Fail> {
-    meets(&rt, names())
+    meets(&rt, NAMES)
 }
 
 // ---- targets
@@ -222,7 +210,7 @@ struct Case {
 fn row(listener: &'static str, target: Target, step: Option<usize>) -> Case {
     Case {
         listener,
-        asked: asked(),
+        asked: ASKED,
         target,
         step,
     }
@@ -244,21 +232,19 @@ fn goes(rt: &(impl Abort + AllocGlobal), conf: &Conf, row: &Case) -> Result<(), 
     Ok(())
 }
 
-fn looping() -> &'static str {
-    r#"{"listeners":{"*:1":{"pass":"routes/a"},"*:2":{"pass":"routes/c"}},"routes":{"a":[{"action":{"pass":"routes/b"}}],"b":[{"action":{"pass":"routes/a"}}],"c":[]}}"#
-}
+const LOOPING: &str =
+    r#"{"listeners":{"*:1":{"pass":"routes/a"},"*:2":{"pass":"routes/c"}},"routes":{"a":[{"action":{"pass":"routes/b"}}],"b":[{"action":{"pass":"routes/a"}}],"c":[]}}"#;
 
 #[test]
 fn loops_end_and_empty_routes_have_nothing(rt: HostRuntime) -> Result<(), Fail> {
-    let conf = configuration(rt.alloc(), looping().as_bytes())?;
+    let conf = configuration(rt.alloc(), LOOPING.as_bytes())?;
     goes(&rt, &conf, &row("*:1", Target::Status(500), None))?;
     goes(&rt, &conf, &row("*:2", Target::Status(404), None))?;
     goes(&rt, &conf, &row("*:3", Target::Status(404), None))
 }
 
-fn listening() -> &'static str {
-    r#"{"listeners":{"*:1":{"pass":"routes/a"},"1.2.3.4:1":{"pass":"routes/b"}},"routes":{"a":[{"action":{"return":201}}],"b":[{"action":{"return":202}}]}}"#
-}
+const LISTENING: &str =
+    r#"{"listeners":{"*:1":{"pass":"routes/a"},"1.2.3.4:1":{"pass":"routes/b"}},"routes":{"a":[{"action":{"return":201}}],"b":[{"action":{"return":202}}]}}"#;
 
 fn returned(step: usize, status: u16) -> Target {
     Target::Return { step, status }
@@ -266,7 +252,7 @@ fn returned(step: usize, status: u16) -> Target {
 
 #[test]
 fn exact_listeners_come_first(rt: HostRuntime) -> Result<(), Fail> {
-    let conf = configuration(rt.alloc(), listening().as_bytes())?;
+    let conf = configuration(rt.alloc(), LISTENING.as_bytes())?;
     goes(&rt, &conf, &row("1.2.3.4:1", returned(1, 202), Some(1)))?;
     goes(&rt, &conf, &row("1.2.3.5:1", returned(0, 201), Some(0)))?;
     goes(&rt, &conf, &row("a:b:1", returned(0, 201), Some(0)))?;
@@ -277,42 +263,35 @@ fn exact_listeners_come_first(rt: HostRuntime) -> Result<(), Fail> {
     goes(&rt, &conf, &row("", Target::Status(404), None))
 }
 
-fn realistic() -> &'static str {
-    r#"{"applications":{"api":{"executable":"count","limits":{"timeout":30},"type":"external"},"site":{"executable":"hello","type":"external"}},"listeners":{"*:8080":{"pass":"routes"},"127.0.0.1:8081":{"pass":"applications/site"}},"routes":[{"action":{"pass":"applications/api"},"match":{"host":["localhost","*.example.com"],"method":["POST","PUT"],"source":"127.0.0.0/8"}},{"action":{"location":"/","return":301},"match":{"uri":["/old","/old/*"]}},{"action":{"pass":"applications/site"}}],"settings":{"http":{"max_body_size":1048576}}}"#
-}
+const REALISTIC: &str =
+    r#"{"applications":{"api":{"executable":"count","limits":{"timeout":30},"type":"external"},"site":{"executable":"hello","type":"external"}},"listeners":{"*:8080":{"pass":"routes"},"127.0.0.1:8081":{"pass":"applications/site"}},"routes":[{"action":{"pass":"applications/api"},"match":{"host":["localhost","*.example.com"],"method":["POST","PUT"],"source":"127.0.0.0/8"}},{"action":{"location":"/","return":301},"match":{"uri":["/old","/old/*"]}},{"action":{"pass":"applications/site"}}],"settings":{"http":{"max_body_size":1048576}}}"#;
 
-fn items() -> Parts {
-    Parts {
-        target: b"/items?x=1",
-        path: b"/items",
-        query: b"x=1",
-        host: b"localhost",
-        ..asked()
-    }
-}
+const ITEMS: Parts = Parts {
+    target: b"/items?x=1",
+    path: b"/items",
+    query: b"x=1",
+    host: b"localhost",
+    ..ASKED
+};
 
-fn form() -> Parts {
-    Parts {
-        method: b"POST",
-        target: b"/form",
-        path: b"/form",
-        host: b"localhost",
-        ..asked()
-    }
-}
+const FORM: Parts = Parts {
+    method: b"POST",
+    target: b"/form",
+    path: b"/form",
+    host: b"localhost",
+    ..ASKED
+};
 
-fn old() -> Parts {
-    Parts {
-        target: b"/old/x",
-        path: b"/old/x",
-        host: b"www.example.com",
-        ..asked()
-    }
-}
+const OLD: Parts = Parts {
+    target: b"/old/x",
+    path: b"/old/x",
+    host: b"www.example.com",
+    ..ASKED
+};
 
 #[test]
 fn a_realistic_configuration_routes(rt: HostRuntime) -> Result<(), Fail> {
-    let conf = configuration(rt.alloc(), realistic().as_bytes())?;
+    let conf = configuration(rt.alloc(), REALISTIC.as_bytes())?;
     let late = Target::App {
         app: 0,
         timeout: Some(30),
@@ -321,7 +300,7 @@ fn a_realistic_configuration_routes(rt: HostRuntime) -> Result<(), Fail> {
         &rt,
         &conf,
         &Case {
-            asked: items(),
+            asked: ITEMS,
             ..row("*:8080", app(1), Some(2))
         },
     )?;
@@ -329,7 +308,7 @@ fn a_realistic_configuration_routes(rt: HostRuntime) -> Result<(), Fail> {
         &rt,
         &conf,
         &Case {
-            asked: form(),
+            asked: FORM,
             ..row("*:8080", late, Some(0))
         },
     )?;
@@ -337,12 +316,12 @@ fn a_realistic_configuration_routes(rt: HostRuntime) -> Result<(), Fail> {
         &rt,
         &conf,
         &Case {
-            asked: old(),
+            asked: OLD,
             ..row("127.0.0.1:8080", returned(1, 301), Some(1))
         },
     )?;
     goes(&rt, &conf, &row("127.0.0.1:8081", app(1), None))?;
-    let request = request_of(rt.alloc(), &old())?;
+    let request = request_of(rt.alloc(), &OLD)?;
     assert!(rt; is_location(rt.alloc(), &conf, 1, &request, Some(b"/"))?);
     assert!(rt; is_location(rt.alloc(), &conf, 2, &request, None)?);
     assert!(rt; is_location(rt.alloc(), &conf, 3, &request, None)?);
@@ -366,35 +345,33 @@ fn is_location(
     }
 }
 
-fn redirecting() -> &'static str {
-    r#"{"routes":[{"action":{"location":"https://$host$request_uri","return":301}},{"action":{"location":"/${uri}$dollar","return":302}}]}"#
-}
+const REDIRECTING: &str =
+    r#"{"routes":[{"action":{"location":"https://$host$request_uri","return":301}},{"action":{"location":"/${uri}$dollar","return":302}}]}"#;
 
 #[test]
 fn locations_are_expanded_with_escapes(rt: HostRuntime) -> Result<(), Fail> {
-    let conf = configuration(rt.alloc(), redirecting().as_bytes())?;
-    let request = request_of(rt.alloc(), &asked())?;
+    let conf = configuration(rt.alloc(), REDIRECTING.as_bytes())?;
+    let request = request_of(rt.alloc(), &ASKED)?;
     assert!(rt; is_location(rt.alloc(), &conf, 0, &request, Some(b"https://a/"))?);
     let spaced = Parts {
         path: b"/a b",
-        ..asked()
+        ..ASKED
     };
     let request = request_of(rt.alloc(), &spaced)?;
     assert!(rt; is_location(rt.alloc(), &conf, 1, &request, Some(b"//a%20b$"))?);
     Ok(())
 }
 
-fn by_argument() -> &'static str {
-    r#"{"applications":{"h":{"executable":"hello","type":"external"}},"listeners":{"*:1":{"pass":"routes"},"*:2":{"pass":"applications/$arg_app"}},"routes":[{"action":{"pass":"applications/$arg_app"}}]}"#
-}
+const BY_ARGUMENT: &str =
+    r#"{"applications":{"h":{"executable":"hello","type":"external"}},"listeners":{"*:1":{"pass":"routes"},"*:2":{"pass":"applications/$arg_app"}},"routes":[{"action":{"pass":"applications/$arg_app"}}]}"#;
 
 fn with_query(query: &'static [u8]) -> Parts {
-    Parts { query, ..asked() }
+    Parts { query, ..ASKED }
 }
 
 #[test]
 fn passes_are_expanded(rt: HostRuntime) -> Result<(), Fail> {
-    let conf = configuration(rt.alloc(), by_argument().as_bytes())?;
+    let conf = configuration(rt.alloc(), BY_ARGUMENT.as_bytes())?;
     let found = Case {
         asked: with_query(b"app=h"),
         ..row("*:1", app(0), Some(0))
@@ -422,7 +399,7 @@ fn passes_are_expanded(rt: HostRuntime) -> Result<(), Fail> {
 /// So many routes of one step, each of which passes to the next, and the last one to an application.
 fn chain(alloc: Global, routes: u8) -> Result<Conf, Fail> {
     let mut text = Vec::new(alloc);
-    text.extend_from_slice(chain_head().as_bytes())?;
+    text.extend_from_slice(CHAIN_HEAD.as_bytes())?;
     for at in 0..routes {
         text.push(if at == 0 { b'{' } else { b',' })?;
         text.extend_from_slice(b"\"")?;
@@ -440,9 +417,8 @@ fn chain(alloc: Global, routes: u8) -> Result<Conf, Fail> {
     configuration(alloc, text.as_slice())
 }
 
-fn chain_head() -> &'static str {
-    r#"{"applications":{"h":{"executable":"hello","type":"external"}},"listeners":{"*:1":{"pass":"routes/000"}},"routes":"#
-}
+const CHAIN_HEAD: &str =
+    r#"{"applications":{"h":{"executable":"hello","type":"external"}},"listeners":{"*:1":{"pass":"routes/000"}},"routes":"#;
 
 fn push_number(text: &mut Vec<u8>, number: u8) -> Result<(), AllocError> {
     text.push(b'0' + number / 100)?;

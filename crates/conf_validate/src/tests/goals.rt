@@ -28,13 +28,12 @@ fn listener_of(conf: &Conf, name: &str) -> Option<usize> {
 }
 
 /// Two applications, two listeners, and routes without names.
-fn site() -> &'static str {
-    r#"{"applications":{"api":{"executable":"count","limits":{"timeout":30},"type":"external"},"site":{"executable":"hello","type":"external"}},"listeners":{"*:8080":{"pass":"routes"},"127.0.0.1:8081":{"pass":"applications/site"}},"routes":[{"action":{"pass":"applications/api"},"match":{"host":["localhost","*.example.com"],"method":["POST","PUT"],"source":"127.0.0.0/8"}},{"action":{"location":"/","return":301},"match":{"uri":["/old","/old/*"]}},{"action":{"pass":"applications/site"}}],"settings":{"http":{"max_body_size":1048576}}}"#
-}
+const SITE: &str =
+    r#"{"applications":{"api":{"executable":"count","limits":{"timeout":30},"type":"external"},"site":{"executable":"hello","type":"external"}},"listeners":{"*:8080":{"pass":"routes"},"127.0.0.1:8081":{"pass":"applications/site"}},"routes":[{"action":{"pass":"applications/api"},"match":{"host":["localhost","*.example.com"],"method":["POST","PUT"],"source":"127.0.0.0/8"}},{"action":{"location":"/","return":301},"match":{"uri":["/old","/old/*"]}},{"action":{"pass":"applications/site"}}],"settings":{"http":{"max_body_size":1048576}}}"#;
 
 #[test]
 fn has_applications(rt: HostRuntime) -> Result<(), Fail> {
-    let conf = configuration(rt.alloc(), site())?;
+    let conf = configuration(rt.alloc(), SITE)?;
     match conf.applications() {
         [first, second] => {
             assert!(rt; first.name.as_slice() == b"api".as_slice());
@@ -50,7 +49,7 @@ fn has_applications(rt: HostRuntime) -> Result<(), Fail> {
 
 #[test]
 fn has_listeners(rt: HostRuntime) -> Result<(), Fail> {
-    let conf = configuration(rt.alloc(), site())?;
+    let conf = configuration(rt.alloc(), SITE)?;
     match conf.listeners() {
         [first, second] => {
             assert!(rt; first.name.as_slice() == b"*:8080".as_slice());
@@ -65,7 +64,7 @@ fn has_listeners(rt: HostRuntime) -> Result<(), Fail> {
 
 #[test]
 fn finds_listeners_by_their_exact_name(rt: HostRuntime) -> Result<(), Fail> {
-    let conf = configuration(rt.alloc(), site())?;
+    let conf = configuration(rt.alloc(), SITE)?;
     assert!(rt; listener_of(&conf, "*:8080") == Some(0));
     assert!(rt; listener_of(&conf, "127.0.0.1:8081") == Some(1));
     for name in ["", "*:808", "*:80800", "127.0.0.1:8080", "~"] {
@@ -83,7 +82,7 @@ fn pass_of(action: &Action) -> &[u8] {
 
 #[test]
 fn has_actions(rt: HostRuntime) -> Result<(), Fail> {
-    let conf = configuration(rt.alloc(), site())?;
+    let conf = configuration(rt.alloc(), SITE)?;
     match conf.steps() {
         [first, second, third] => {
             assert!(rt; pass_of(&first.action) == b"applications/api".as_slice());
@@ -100,7 +99,7 @@ fn has_actions(rt: HostRuntime) -> Result<(), Fail> {
 
 #[test]
 fn knows_where_passes_lead(rt: HostRuntime) -> Result<(), Fail> {
-    let conf = configuration(rt.alloc(), site())?;
+    let conf = configuration(rt.alloc(), SITE)?;
     assert!(rt; is_route(conf.listener_goal(0), 0, 3));
     assert!(rt; is_application(conf.listener_goal(1), 1));
     assert!(rt; conf.listener_goal(2).is_none());
@@ -113,7 +112,7 @@ fn knows_where_passes_lead(rt: HostRuntime) -> Result<(), Fail> {
 
 #[test]
 fn finds_destinations_by_their_exact_name(rt: HostRuntime) -> Result<(), Fail> {
-    let conf = configuration(rt.alloc(), site())?;
+    let conf = configuration(rt.alloc(), SITE)?;
     assert!(rt; conf.destinations().len() == 3);
     assert!(rt; is_application(goal_of(&conf, "applications/api"), 0));
     assert!(rt; is_application(goal_of(&conf, "applications/site"), 1));
@@ -134,13 +133,12 @@ fn finds_destinations_by_their_exact_name(rt: HostRuntime) -> Result<(), Fail> {
 }
 
 /// Routes with names, one of them without steps; passes with variables, and applications of the same names.
-fn variables() -> &'static str {
-    r#"{"applications":{"$host":{"executable":"hello","type":"external"},"a":{"executable":"hello","type":"external"}},"listeners":{"*:1":{"pass":"routes/m"},"*:2":{"pass":"applications/$host"},"*:3":{"pass":"routes/$uri"}},"routes":{"k":[{"action":{"return":200}},{"action":{"pass":"routes/$host"}}],"l":[],"m":[{"action":{"pass":"applications/$host"}},{"action":{"pass":"applications/a"}},{"action":{"pass":"routes/k"}}],"n":[{"action":{"pass":"routes/l"}}]}}"#
-}
+const VARIABLES: &str =
+    r#"{"applications":{"$host":{"executable":"hello","type":"external"},"a":{"executable":"hello","type":"external"}},"listeners":{"*:1":{"pass":"routes/m"},"*:2":{"pass":"applications/$host"},"*:3":{"pass":"routes/$uri"}},"routes":{"k":[{"action":{"return":200}},{"action":{"pass":"routes/$host"}}],"l":[],"m":[{"action":{"pass":"applications/$host"}},{"action":{"pass":"applications/a"}},{"action":{"pass":"routes/k"}}],"n":[{"action":{"pass":"routes/l"}}]}}"#;
 
 #[test]
 fn passes_with_variables_lead_nowhere_yet(rt: HostRuntime) -> Result<(), Fail> {
-    let conf = configuration(rt.alloc(), variables())?;
+    let conf = configuration(rt.alloc(), VARIABLES)?;
     assert!(rt; is_route(conf.listener_goal(0), 2, 3));
     assert!(rt; conf.listener_goal(1).is_none());
     assert!(rt; conf.listener_goal(2).is_none());
@@ -155,7 +153,7 @@ fn passes_with_variables_lead_nowhere_yet(rt: HostRuntime) -> Result<(), Fail> {
 
 #[test]
 fn finds_named_routes(rt: HostRuntime) -> Result<(), Fail> {
-    let conf = configuration(rt.alloc(), variables())?;
+    let conf = configuration(rt.alloc(), VARIABLES)?;
     assert!(rt; conf.destinations().len() == 6);
     assert!(rt; is_application(goal_of(&conf, "applications/$host"), 0));
     assert!(rt; is_application(goal_of(&conf, "applications/a"), 1));
