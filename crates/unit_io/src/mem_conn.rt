@@ -385,6 +385,8 @@ impl Conn for MemConn {
 #[cfg(test)]
 mod tests {
     use super::*;
+    use std::alloc::AllocGlobal;
+    use std::process::Abort;
 
     const FROM: Addr = Addr {
         ip: 0x7F00_0001,
@@ -397,7 +399,7 @@ mod tests {
     };
 
     // A connection that gives three bytes, then each other event, and a byte behind the end. Its second write fails.
-    fn connection(rt: &HostRuntime) -> MemConn {
+    fn connection(rt: &(impl Abort + AllocGlobal)) -> MemConn {
         let alloc = rt.alloc();
         let bytes = Bytes::copy_of(alloc, b"abc").expect(rt, "copied");
         let mut script = Vec::new(alloc);
@@ -412,7 +414,7 @@ mod tests {
     }
 
     // What the reads behind the bytes answer; the last one is asked twice.
-    fn meets_the_rest(rt: &HostRuntime, conn: &mut MemConn, buf: &mut [u8; 4]) {
+    fn meets_the_rest(rt: &impl Abort, conn: &mut MemConn, buf: &mut [u8; 4]) {
         assert_eq!(rt; conn.check(), ConnCheck::Alive);
         assert_eq!(rt; conn.read(buf), ConnRead::NotYet);
         assert_eq!(rt; conn.check(), ConnCheck::Failed);

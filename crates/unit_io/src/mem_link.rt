@@ -137,6 +137,8 @@ mod tests {
 
     use super::*;
     use crate::conn::Conn;
+    use std::alloc::AllocGlobal;
+    use std::process::Abort;
     use unit_types::{Addr, Bytes};
 
     const ADDR: Addr = Addr {
@@ -144,7 +146,7 @@ mod tests {
         port: 40000,
     };
 
-    fn connection(rt: &HostRuntime) -> LinkEvent
+    fn connection(rt: &(impl Abort + AllocGlobal)) -> LinkEvent
         ensures { IsFreshEvent result }
     {
         let alloc = rt.alloc();
