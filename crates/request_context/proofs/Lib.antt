@@ -1,6 +1,7 @@
 pub mod Accepted
 pub mod Asks
 pub mod Collected
+pub mod Compared
 pub mod Cuts
 pub mod Fits
 pub mod Left

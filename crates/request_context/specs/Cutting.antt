@@ -1,5 +1,5 @@
 -- The reply to what was asked: its record, the parts of that, and the pieces of a part.
-use Rattle.std.specs.Prelude.{ℕ, List}
+use Rattle.std.specs.Prelude.{◌≡◌, ◌<◌, ℕ, List}
 use Rattle.unit_types.specs.Record.{reply_record}
 use Rattle.unit_types.specs.declared.message.Reply.{Reply}
 use Rattle.unit_types.specs.declared.message.Request.{Request}
@@ -38,3 +38,13 @@ part_to reply_of asked part = stretch_of part_size (record_to reply_of asked) pa
 -- one piece of one of its parts
 abbrev pub piece_to : (List ℕ → Request → Reply) → Asked → ℕ → ℕ → List ℕ
 piece_to reply_of asked part index = stretch_of piece_size (part_to reply_of asked part) index
+
+-- how many pieces one of its parts has
+abbrev pub piece_count : (List ℕ → Request → Reply) → Asked → ℕ → ℕ
+piece_count reply_of asked part = stretch_count piece_size (part_to reply_of asked part)
+
+-- the reply's record has a part with this number, the part has a piece with this one, and these are its bytes
+pub record IsPiece (reply_of : List ℕ → Request → Reply) (asked : Asked) (part index : ℕ) (bytes : List ℕ) : Type 0 where
+  pub part_within : part < part_count reply_of asked
+  pub index_within : index < piece_count reply_of asked part
+  pub bytes_of : bytes ≡ piece_to reply_of asked part index

@@ -1,4 +1,5 @@
 pub mod Collecting
+pub mod Comparing
 pub mod Cutting
 pub mod Parcels
 pub mod Parts

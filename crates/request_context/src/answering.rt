@@ -1,7 +1,7 @@
 //! Replies in parts, and these in parcels.
-ghost use Rattle.std.specs.Prelude.{◌≡◌, ◌<◌, ◌≤◌, ◌*◌, ◌^◌, length, IfOk};
+ghost use Rattle.std.specs.Prelude.{◌≡◌, ◌<◌, ◌≤◌, ◌^◌, length, IfOk};
 ghost use Rattle.std.specs.Arc.{arc_value};
-ghost use Rattle.request_context.specs.Cutting.{record_to, part_to};
+ghost use Rattle.request_context.specs.Cutting.{record_to, part_count, part_to};
 ghost use Rattle.request_context.specs.Parcels.{AreLeft, answer_of, answers_of};
 ghost use Rattle.request_context.specs.Parts.{part_size, piece_size, stretch_count};
 
@@ -25,7 +25,8 @@ fn answer_piece<H: Handlers>(
     index: u32,
 ) -> Result<Parcel<H>, AllocError>
     requires part { bytes.now ≡ part_to H.reply_of (arc_value asked.now) part }
-    requires index { piece_size * index ≤ length bytes.now }
+    requires within { part < part_count H.reply_of (arc_value asked.now) }
+    requires index { index < stretch_count piece_size bytes.now }
     ensures { IfOk result (λ p. p ≡ answer_of H.reply_of (arc_value asked.now) part index) }
 {
     let bytes = Bytes::copy_of(alloc, stretch(bytes, CHUNK_SIZE, index as usize))?;
@@ -41,6 +42,7 @@ fn part_pieces<H: Handlers>(
     bytes: &[u8],
 ) -> Result<Pieces<H>, AllocError>
     requires part { bytes.now ≡ part_to H.reply_of (arc_value asked.now) part }
+    requires within { part < part_count H.reply_of (arc_value asked.now) }
     requires short { length bytes.now ≤ part_size }
     ensures { IfOk result (λ p. p.parcels ≡ answers_of H.reply_of (arc_value asked.now) part) }
 {

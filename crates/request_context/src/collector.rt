@@ -1,14 +1,16 @@
 //! Replies from their parts.
-ghost use Rattle.std.specs.Prelude.{◌≡◌, ◌≤◌, ◌<◌, ◌+◌, ◌++◌, ℕ, List, length, IfOk, OnOk, OnErr, IsTrue, ◌↔◌, vec_len, vec_capacity};
+ghost use Rattle.std.specs.Prelude.{◌≡◌, ◌≤◌, ◌<◌, ◌+◌, ◌++◌, ℕ, List, length, IfOk, OnOk, OnErr, IsTrue, ◌↔◌, Some, vec_len, vec_capacity};
 ghost use Rattle.std.specs.Arc.{arc_value};
 ghost use Rattle.request_context.specs.declared.asked.Asked.{Asked};
 ghost use Rattle.request_context.specs.Collecting.{IsPart, Accepts, IsStray, all_bytes, with_next};
 ghost use Rattle.request_context.specs.Cutting.{Collected, part_count};
 ghost use Rattle.request_context.specs.Parcels.{IsEmptied, answers_of, joined};
+ghost use Rattle.request_context.specs.Record.{IsRecordOf};
 
 use crate::accepting::{Part, Stray};
 use crate::asked::Asked;
 use crate::asking::{put_pieces, size_of_pieces};
+use crate::kept::Kept;
 use crate::pieces::Pieces;
 use crate::reading::read_reply;
 use std::alloc::{AllocError, Global};
@@ -23,7 +25,7 @@ use unit_types::{Bytes, Handlers, Reply};
 /// the content of its request.
 #[derive(Drop)]
 pub struct Collector<H: Handlers> {
-    asked: Asked,
+    asked: Kept,
     next: u32,
     kept: Vec<Bytes>,
     handlers: PhantomData<H>,
@@ -81,20 +83,37 @@ impl<H: Handlers> Collector<H> {
         ensures { IfOk result (λ c. c ≡ record { asked = asked.now; next = 0 }) }
     {
         Ok(Collector {
-            asked: asked.another(alloc)?,
+            asked: Kept::of(asked.another(alloc)?),
             next: 0,
             kept: Vec::new(alloc),
             handlers: PhantomData,
         })
     }
 
+    /// A collector of the reply to the request of which this is the record, as it was posted; it has no part yet.
+    ///
+    /// The bytes are a request record. It keeps them as they are, and compares each part's request with them: a request
+    /// has one record, so this is comparing requests. Takes no memory.
+    pub fn over(alloc: Global, posted: Bytes) -> Collector<H>
+        requires { (asked : Asked) × IsRecordOf posted (Some asked) }
+        ensures { (asked : Asked) → IsRecordOf posted (Some asked) → result ≡ record { asked = asked; next = 0 } }
+    {
+        Collector {
+            asked: Kept::over(posted),
+            next: 0,
+            kept: Vec::new(alloc),
+            handlers: PhantomData,
+        }
+    }
+
     // In what a part differs from the awaited one, which is told by its number and what it says was asked.
     fn stray(&self, part: u32, found: Arc<Asked>) -> Option<Stray>
         ensures { IsStray self.now (arc_value found) part result }
     {
-        if found.stream != self.asked.stream {
+        let kept = self.asked.stream();
+        if found.stream != kept {
             return Some(Stray::Stream {
-                kept: self.asked.stream,
+                kept,
                 found: found.stream,
             });
         }
@@ -104,11 +123,8 @@ impl<H: Handlers> Collector<H> {
                 found: part,
             });
         }
-        if !found.is_equal(&self.asked) {
-            return Some(Stray::Request {
-                kept: self.asked.stream,
-                found,
-            });
+        if !self.asked.is_equal(&found) {
+            return Some(Stray::Request { kept, found });
         }
         None
     }

@@ -1,16 +1,17 @@
 //! What a chunk holds.
 ghost use Rattle.std.specs.Prelude.{◌≡◌};
 ghost use Rattle.std.specs.Arc.{arc_value};
-ghost use Rattle.request_context.specs.Cutting.{PieceValue, piece_to};
+ghost use Rattle.request_context.specs.Cutting.{PieceValue, IsPiece};
 
 use crate::asked::Asked;
 use std::marker::{Model, PhantomData};
 use std::sync::Arc;
 use unit_types::{Bytes, Handlers};
 
-/// A piece of the reply of the handlers `H`: of its record, the piece `index` of the part `part`, at most 16,384 bytes.
+/// A piece of the reply of the handlers `H`: of its record, the piece `index` of the part `part`, 1 to 16,384 bytes.
 ///
-/// That its bytes are those is part of the type: where it isn't shown, no piece is made.
+/// That the record has this part and the part this piece, and that the bytes are those of it, is part of the type: where it
+/// isn't shown, no piece is made.
 #[derive(Drop)]
 pub struct Piece<H: Handlers> {
     asked: Arc<Asked>,
@@ -21,23 +22,22 @@ pub struct Piece<H: Handlers> {
 }
 
 impl<H: Handlers> Model for Piece<H> {
-    ghost use Rattle.std.specs.Prelude.{◌≡◌};
     ghost use Rattle.std.specs.Arc.{arc_value};
-    ghost use Rattle.request_context.specs.Cutting.{PieceValue, piece_to};
+    ghost use Rattle.request_context.specs.Cutting.{PieceValue, IsPiece};
 
     ghost Value = { PieceValue };
 
     ghost view = { λ p. record { asked = arc_value p.asked; part = p.part; index = p.index; bytes = p.bytes } };
 
-    ghost invariant = { λ p. p.bytes ≡ piece_to H.reply_of (arc_value p.asked) p.part p.index };
+    ghost invariant = { λ p. IsPiece H.reply_of (arc_value p.asked) p.part p.index p.bytes };
 }
 
 impl<H: Handlers> Piece<H> {
     /// The piece with these numbers and bytes.
     ///
-    /// The bytes are those of that piece.
+    /// There is such a piece, and the bytes are those of it.
     pub fn of(asked: Arc<Asked>, part: u32, index: u32, bytes: Bytes) -> Piece<H>
-        requires { bytes ≡ piece_to H.reply_of (arc_value asked) part index }
+        requires { IsPiece H.reply_of (arc_value asked) part index bytes }
         ensures { result ≡ record { asked = arc_value asked; part = part; index = index; bytes = bytes } }
     {
         Piece {
@@ -70,10 +70,10 @@ impl<H: Handlers> Piece<H> {
         self.index
     }
 
-    /// The bytes, which are those of this piece of this part of the reply to what was asked.
+    /// The bytes, which are those of this piece of this part of the reply to what was asked; there is such a piece.
     pub fn bytes(&self) -> &[u8]
         ensures value { result.now ≡ self.now.bytes }
-        ensures kept { self.now.bytes ≡ piece_to H.reply_of self.now.asked self.now.part self.now.index }
+        ensures kept { IsPiece H.reply_of self.now.asked self.now.part self.now.index self.now.bytes }
     {
         self.bytes.as_slice()
     }

@@ -1,11 +1,11 @@
 //! Records to values.
 ghost use Rattle.std.specs.Prelude.{◌≡◌, List, IfOk};
-ghost use Rattle.std.specs.Int.{w8, w16, w32, w64};
 ghost use Rattle.request_context.specs.Record.{IsRecordOf, IsReplyRecordOf};
-ghost use Rattle.request_context.specs.Reading.{Gives, number_at, text_at, minor_at, addr_at, field_at, fields_at, field_list_at, head_at, asked_at, reply_at, make_request};
+ghost use Rattle.request_context.specs.Reading.{Gives, text_at, addr_at, field_at, fields_at, field_list_at, head_at, asked_at, reply_at, make_request};
 ghost use Rattle.request_context.specs.declared.reading.ReadError.TheVariants.{Memory};
 
 use crate::asked::Asked;
+use crate::fronts::{minor_at, text_at, u16_at, u32_at, u64_at};
 use std::alloc::{AllocError, AllocFailed, Global};
 use unit_types::{Addr, Bytes, Field, Fields, Reply, Request};
 
@@ -43,84 +43,19 @@ struct Head {
     host: Bytes,
 }
 
-#[tactic(auto, unfolding(crate::specs::Reading::number_at))]
-fn u8_at(bytes: &[u8]) -> Result<(u8, &[u8]), ReadError>
-    ensures { Gives (λ x. (x.0, x.1.now)) result (number_at w8 bytes.now) }
-{
-    if bytes.len() < 1 {
-        return Err(ReadError::NoRecord);
-    }
-    let (front, rest) = bytes.split_at(1);
-    Ok((front[0], rest))
-}
-
-#[tactic(auto, unfolding(crate::specs::Reading::number_at))]
-fn u16_at(bytes: &[u8]) -> Result<(u16, &[u8]), ReadError>
-    ensures { Gives (λ x. (x.0, x.1.now)) result (number_at w16 bytes.now) }
-{
-    if bytes.len() < 2 {
-        return Err(ReadError::NoRecord);
-    }
-    let (front, rest) = bytes.split_at(2);
-    Ok((u16::from_be_bytes([front[0], front[1]]), rest))
-}
-
-#[tactic(auto, unfolding(crate::specs::Reading::number_at))]
-fn u32_at(bytes: &[u8]) -> Result<(u32, &[u8]), ReadError>
-    ensures { Gives (λ x. (x.0, x.1.now)) result (number_at w32 bytes.now) }
-{
-    if bytes.len() < 4 {
-        return Err(ReadError::NoRecord);
-    }
-    let (front, rest) = bytes.split_at(4);
-    let number = u32::from_be_bytes([front[0], front[1], front[2], front[3]]);
-    Ok((number, rest))
-}
-
-#[tactic(auto, unfolding(crate::specs::Reading::number_at))]
-fn u64_at(bytes: &[u8]) -> Result<(u64, &[u8]), ReadError>
-    ensures { Gives (λ x. (x.0, x.1.now)) result (number_at w64 bytes.now) }
-{
-    if bytes.len() < 8 {
-        return Err(ReadError::NoRecord);
-    }
-    let (front, rest) = bytes.split_at(8);
-    let number = u64::from_be_bytes([
-        front[0], front[1], front[2], front[3], front[4], front[5], front[6], front[7],
-    ]);
-    Ok((number, rest))
-}
-
-#[tactic(auto, unfolding(crate::specs::Reading::text_at))]
 fn text_of(alloc: Global, bytes: &[u8]) -> Result<(Bytes, &[u8]), ReadError>
     ensures { Gives (λ x. (x.0, x.1.now)) result (text_at bytes.now) }
 {
-    let (len, rest) = u32_at(bytes)?;
-    let len = len as usize;
-    if rest.len() < len {
-        return Err(ReadError::NoRecord);
-    }
-    let (text, rest) = rest.split_at(len);
+    let (text, rest) = text_at(bytes).ok_or(ReadError::NoRecord)?;
     Ok((Bytes::copy_of(alloc, text)?, rest))
-}
-
-#[tactic(auto, unfolding(crate::specs::Reading::minor_at))]
-fn minor_of(bytes: &[u8]) -> Result<(u8, &[u8]), ReadError>
-    ensures { Gives (λ x. (x.0, x.1.now)) result (minor_at bytes.now) }
-{
-    let (minor, rest) = u8_at(bytes)?;
-    if minor > 1 {
-        return Err(ReadError::NoRecord);
-    }
-    Ok((minor, rest))
 }
 
 #[tactic(auto, unfolding(crate::specs::Reading::addr_at))]
 fn addr_of(bytes: &[u8]) -> Result<(Addr, &[u8]), ReadError>
     ensures { Gives (λ x. (x.0, x.1.now)) result (addr_at bytes.now) }
 {
-    let (ip, rest) = u32_at(bytes)?;
-    let (port, rest) = u16_at(rest)?;
+    let (ip, rest) = u32_at(bytes).ok_or(ReadError::NoRecord)?;
+    let (port, rest) = u16_at(rest).ok_or(ReadError::NoRecord)?;
     Ok((Addr { ip, port }, rest))
 }
 
@@ -151,7 +86,7 @@ fn fields_of(alloc: Global, count: u32, bytes: &[u8]) -> Result<(Vec<Field>, &[u
 fn field_list_of(alloc: Global, bytes: &[u8]) -> Result<(Fields, &[u8]), ReadError>
     ensures { Gives (λ x. (x.0, x.1.now)) result (field_list_at bytes.now) }
 {
-    let (count, rest) = u32_at(bytes)?;
+    let (count, rest) = u32_at(bytes).ok_or(ReadError::NoRecord)?;
     let (fields, rest) = fields_of(alloc, count, rest)?;
     Ok((Fields::of(fields), rest))
 }
@@ -160,7 +95,7 @@ fn field_list_of(alloc: Global, bytes: &[u8]) -> Result<(Fields, &[u8]), ReadErr
 fn head_of(alloc: Global, bytes: &[u8]) -> Result<(Head, &[u8]), ReadError>
     ensures { Gives (λ x. (x.0, x.1.now)) result (head_at bytes.now) }
 {
-    let (minor, rest) = minor_of(bytes)?;
+    let (minor, rest) = minor_at(bytes).ok_or(ReadError::NoRecord)?;
     let (method, rest) = text_of(alloc, rest)?;
     let (target, rest) = text_of(alloc, rest)?;
     let (path, rest) = text_of(alloc, rest)?;
@@ -200,7 +135,7 @@ fn request_of(head: Head, from: Addr, to: Addr, fields: Fields, body: Bytes) -> 
 fn asked_of(alloc: Global, bytes: &[u8]) -> Result<(Asked, &[u8]), ReadError>
     ensures { Gives (λ x. (x.0, x.1.now)) result (asked_at bytes.now) }
 {
-    let (stream, rest) = u64_at(bytes)?;
+    let (stream, rest) = u64_at(bytes).ok_or(ReadError::NoRecord)?;
     let (name, rest) = text_of(alloc, rest)?;
     let (head, rest) = head_of(alloc, rest)?;
     let (from, rest) = addr_of(rest)?;
@@ -222,7 +157,7 @@ fn asked_of(alloc: Global, bytes: &[u8]) -> Result<(Asked, &[u8]), ReadError>
 fn reply_of(alloc: Global, bytes: &[u8]) -> Result<(Reply, &[u8]), ReadError>
     ensures { Gives (λ x. (x.0, x.1.now)) result (reply_at bytes.now) }
 {
-    let (status, rest) = u16_at(bytes)?;
+    let (status, rest) = u16_at(bytes).ok_or(ReadError::NoRecord)?;
     let (fields, rest) = field_list_of(alloc, rest)?;
     let (body, rest) = text_of(alloc, rest)?;
     Ok((

@@ -7,11 +7,12 @@ use Rattle.unit_io.specs.declared.link.Accepted.TheVariants as accepted
 use Rattle.unit_io.specs.declared.mem_link.LinkEvent.{LinkEvent}
 use Rattle.unit_io.specs.declared.mem_link.LinkEvent.TheVariants.{Conn, NotYet, Fail}
 
--- the events that are still to come, how many connections were handed out, whether none was there at the last accept,
--- and what was counted
+-- the events that are still to come, how many connections were handed out, whether End was answered, whether the last
+-- accept answered NotYet, and what was counted
 pub record LinkState : Type 0 where
   pub events : List LinkEvent
   pub handed : ℕ
+  pub ended : Bool
   pub idle : Bool
   pub faults : ℕ
   pub waits : ℕ
@@ -29,7 +30,7 @@ numbers_below (suc n) = numbers_below n ++ n ∷ []
 
 -- an accept, by the events that are still to come
 abbrev pub IsAcceptOf : List LinkEvent → LinkState → Accepted ConnState → LinkState → Type 0
-IsAcceptOf [] l answer after = (answer ≡ accepted.End) × (after ≡ record l { idle = false })
+IsAcceptOf [] l answer after = (answer ≡ accepted.End) × (after ≡ record l { ended = true; idle = false })
 IsAcceptOf (Conn c ∷ rest) l answer after = (answer ≡ accepted.Conn (record c { number = l.handed })) × (after ≡ record l { events = rest; handed = l.handed + 1; idle = false })
 IsAcceptOf (NotYet ∷ rest) l answer after = (answer ≡ accepted.NotYet) × (after ≡ record l { events = rest; idle = true; waits = one_more l.waits })
 IsAcceptOf (Fail ∷ rest) l answer after = (answer ≡ accepted.Failed) × (after ≡ record l { events = rest; idle = false; faults = one_more l.faults })

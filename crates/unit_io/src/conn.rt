@@ -1,5 +1,5 @@
 //! A connection and what it was.
-ghost use Rattle.std.specs.Prelude.{◌≡◌, ◌≢◌, ◌≤◌, ◌<◌, ◌⊎◌, ℕ, List, length, take, Option, IsTrue, Bool, true};
+ghost use Rattle.std.specs.Prelude.{◌≡◌, ◌≢◌, ◌≤◌, ◌<◌, ◌⊎◌, ℕ, List, length, take, drop, Option, IsTrue, Bool, true};
 ghost use Rattle.unit_types.specs.declared.message.Addr.{Addr};
 ghost use Rattle.unit_io.specs.Causes.{Rose};
 ghost use Rattle.unit_io.specs.Told.{Adds};
@@ -102,27 +102,34 @@ pub trait Conn: Drop {
     /// How many calls answered `NotYet`.
     ghost waits: { Self → ℕ };
 
-    /// Moves bytes that came into the front of `buf`. After `End` it answers `End` or `Failed` alone.
+    /// Moves bytes that came into the front of `buf`; what lies behind them in `buf` stays. After `End` it answers `End` or
+    /// `Failed` alone.
     ///
-    /// `NotYet` and `Failed` come only where their counts rose in this call; then no byte was moved.
+    /// `NotYet` and `Failed` come only where their counts rose in this call. Then, as at `End`, no byte was moved, and all of
+    /// `buf` stays.
     fn read(&mut self, buf: &mut [u8]) -> ConnRead
         requires { 0 < length buf.old }
 
         ensures some { (n : ℕ) → result ≡ ConnRead.Got n → (1 ≤ n) × (n ≤ length buf.old) }
         ensures got { (n : ℕ) → result ≡ ConnRead.Got n → Adds (came self.old) (came self.new) (take n buf.new) }
         ensures open { (n : ℕ) → result ≡ ConnRead.Got n → ended self.new ≡ ended self.old }
+        ensures size { length buf.new ≡ length buf.old }
+        ensures behind { (n : ℕ) → result ≡ ConnRead.Got n → drop n buf.new ≡ drop n buf.old }
 
         ensures end { result ≡ ConnRead.End → ended self.new ≡ true }
         ensures end_came { result ≡ ConnRead.End → came self.new ≡ came self.old }
+        ensures end_buf { result ≡ ConnRead.End → buf.new ≡ buf.old }
         ensures past_end { ended self.old ≡ true → (result ≡ ConnRead.End) ⊎ (result ≡ ConnRead.Failed) }
 
         ensures not_yet { result ≡ ConnRead.NotYet → Rose (waits self.old) (waits self.new) }
         ensures not_yet_came { result ≡ ConnRead.NotYet → came self.new ≡ came self.old }
+        ensures not_yet_buf { result ≡ ConnRead.NotYet → buf.new ≡ buf.old }
         ensures not_yet_open { result ≡ ConnRead.NotYet → ended self.new ≡ ended self.old }
         ensures ready { result ≢ ConnRead.NotYet → waits self.new ≡ waits self.old }
 
         ensures failed { result ≡ ConnRead.Failed → Rose (faults self.old) (faults self.new) }
         ensures failed_came { result ≡ ConnRead.Failed → came self.new ≡ came self.old }
+        ensures failed_buf { result ≡ ConnRead.Failed → buf.new ≡ buf.old }
         ensures failed_open { result ≡ ConnRead.Failed → ended self.new ≡ ended self.old }
         ensures sound { result ≢ ConnRead.Failed → faults self.new ≡ faults self.old }
 

@@ -30,10 +30,10 @@ pub trait Link: Drop {
     /// The numbers of the connections that were handed out, where they are told.
     ghost handed: { Self → Option (List ℕ) };
 
-    /// No more connections come.
+    /// An accept answered `End`: no more connections come.
     ghost at_end: { Self → Type 0 };
 
-    /// No connection was there at the last accept.
+    /// The last accept answered `NotYet`: no connection was there.
     ghost idle: { Self → Type 0 };
 
     /// How many calls failed.
@@ -44,8 +44,8 @@ pub trait Link: Drop {
 
     /// The next connection.
     ///
-    /// `NotYet` and `Failed` come only where their counts rose in this call. What was idle is so no longer, unless it
-    /// answers `NotYet` again.
+    /// `NotYet` and `Failed` come only where their counts rose in this call. The link is idle exactly behind a `NotYet`, and
+    /// no answer but `End` brings it to its end or back from there.
     fn accept(&mut self) -> Accepted<Self::Conn>
         ensures conn { (c : Self.Conn) → result ≡ Accepted.Conn c → Adds (handed self.old) (handed self.new) (Self.Conn.number c ∷ []) }
         ensures fresh_came { (c : Self.Conn) → result ≡ Accepted.Conn c → IsAtEnd (Self.Conn.came c) }
@@ -54,11 +54,13 @@ pub trait Link: Drop {
 
         ensures end { result ≡ Accepted.End → at_end self.new }
         ensures end_handed { result ≡ Accepted.End → handed self.new ≡ handed self.old }
+        ensures kept_end { result ≢ Accepted.End → (at_end self.new ↔ at_end self.old) }
 
         ensures not_yet { result ≡ Accepted.NotYet → Rose (waits self.old) (waits self.new) }
         ensures not_yet_idle { result ≡ Accepted.NotYet → idle self.new }
         ensures not_yet_handed { result ≡ Accepted.NotYet → handed self.new ≡ handed self.old }
         ensures ready { result ≢ Accepted.NotYet → waits self.new ≡ waits self.old }
+        ensures not_idle { result ≢ Accepted.NotYet → idle self.new → ⊥ }
 
         ensures failed { result ≡ Accepted.Failed → Rose (faults self.old) (faults self.new) }
         ensures failed_handed { result ≡ Accepted.Failed → handed self.new ≡ handed self.old }

@@ -126,6 +126,9 @@ fn give(came: &mut Bytes, bytes: &[u8], at: usize, buf: &mut [u8]) -> Result<usi
     ensures size { IfOk result (λ n. n ≡ min (length buf.old) (length bytes.now - at)) }
     ensures came { IfOk result (λ n. came.new ≡ came.old ++ take n (drop at bytes.now)) }
     ensures moved { IfOk result (λ n. take n buf.new ≡ take n (drop at bytes.now)) }
+    ensures room { length buf.new ≡ length buf.old }
+    ensures behind { IfOk result (λ n. drop n buf.new ≡ drop n buf.old) }
+    ensures untouched { OnErr result (buf.new ≡ buf.old) }
     ensures kept { OnErr result (came.new ≡ came.old) }
 {
     let left = &bytes[at..];
@@ -249,15 +252,20 @@ impl Conn for MemConn {
         ensures some { (n : ℕ) → result ≡ ConnRead.Got n → (1 ≤ n) × (n ≤ length buf.old) }
         ensures got { (n : ℕ) → result ≡ ConnRead.Got n → Adds (Some self.old.came) (Some self.new.came) (take n buf.new) }
         ensures open { (n : ℕ) → result ≡ ConnRead.Got n → self.new.ended ≡ self.old.ended }
+        ensures size { length buf.new ≡ length buf.old }
+        ensures behind { (n : ℕ) → result ≡ ConnRead.Got n → drop n buf.new ≡ drop n buf.old }
         ensures end { result ≡ ConnRead.End → self.new.ended ≡ true }
         ensures end_came { result ≡ ConnRead.End → Some self.new.came ≡ Some self.old.came }
+        ensures end_buf { result ≡ ConnRead.End → buf.new ≡ buf.old }
         ensures past_end { self.old.ended ≡ true → (result ≡ ConnRead.End) ⊎ (result ≡ ConnRead.Failed) }
         ensures not_yet { result ≡ ConnRead.NotYet → Rose self.old.waits self.new.waits }
         ensures not_yet_came { result ≡ ConnRead.NotYet → Some self.new.came ≡ Some self.old.came }
+        ensures not_yet_buf { result ≡ ConnRead.NotYet → buf.new ≡ buf.old }
         ensures not_yet_open { result ≡ ConnRead.NotYet → self.new.ended ≡ self.old.ended }
         ensures ready { result ≢ ConnRead.NotYet → self.new.waits ≡ self.old.waits }
         ensures failed { result ≡ ConnRead.Failed → Rose self.old.faults self.new.faults }
         ensures failed_came { result ≡ ConnRead.Failed → Some self.new.came ≡ Some self.old.came }
+        ensures failed_buf { result ≡ ConnRead.Failed → buf.new ≡ buf.old }
         ensures failed_open { result ≡ ConnRead.Failed → self.new.ended ≡ self.old.ended }
         ensures sound { result ≢ ConnRead.Failed → self.new.faults ≡ self.old.faults }
         ensures went { Some self.new.went ≡ Some self.old.went }
@@ -377,36 +385,72 @@ impl Conn for MemConn {
 #[cfg(test)]
 mod tests {
     use super::*;
+    use std::alloc::AllocGlobal;
+    use std::process::Abort;
 
-    const ADDR: Addr = Addr {
+    const FROM: Addr = Addr {
         ip: 0x7F00_0001,
         port: 40000,
     };
 
+    const TO: Addr = Addr {
+        ip: 0x7F00_0001,
+        port: 8080,
+    };
+
+    // A connection that gives three bytes, then each other event, and a byte behind the end. Its second write fails.
+    fn connection(rt: &(impl Abort + AllocGlobal)) -> MemConn {
+        let alloc = rt.alloc();
+        let bytes = Bytes::copy_of(alloc, b"abc").expect(rt, "copied");
+        let mut script = Vec::new(alloc);
+        script.push(Event::Give(bytes)).expect(rt, "pushed");
+        script.push(Event::NotYet).expect(rt, "pushed");
+        script.push(Event::Fail).expect(rt, "pushed");
+        script.push(Event::End).expect(rt, "pushed");
+        script.push(Event::NotYet).expect(rt, "pushed");
+        let fail_writes = vec![in alloc; 1u64].expect(rt, "made");
+        let listener = Bytes::copy_of(alloc, b"web").expect(rt, "copied");
+        MemConn::open(alloc, script, fail_writes, listener, FROM, TO)
+    }
+
+    // What the reads behind the bytes answer; the last one is asked twice.
+    fn meets_the_rest(rt: &impl Abort, conn: &mut MemConn, buf: &mut [u8; 4]) {
+        assert_eq!(rt; conn.check(), ConnCheck::Alive);
+        assert_eq!(rt; conn.read(buf), ConnRead::NotYet);
+        assert_eq!(rt; conn.check(), ConnCheck::Failed);
+        assert_eq!(rt; conn.read(buf), ConnRead::Failed);
+        assert_eq!(rt; conn.read(buf), ConnRead::End);
+        assert_eq!(rt; conn.read(buf), ConnRead::End);
+    }
+
     #[test]
     fn meets_each_event_in_parts(rt: HostRuntime) {
-        let alloc = rt.alloc();
-        let bytes = Bytes::copy_of(alloc, b"abc").expect(&rt, "copied");
-        let mut script = Vec::new(alloc);
-        script.push(Event::Give(bytes)).expect(&rt, "pushed");
-        script.push(Event::NotYet).expect(&rt, "pushed");
-        script.push(Event::Fail).expect(&rt, "pushed");
-        let listener = Bytes::of(Vec::new(alloc));
-        let mut conn = MemConn::open(alloc, script, Vec::new(alloc), listener, ADDR, ADDR);
-        let mut buf = [0u8; 2];
-        assert_eq!(rt; conn.read(&mut buf), ConnRead::Got(2));
-        assert_eq!(rt; conn.read(&mut buf), ConnRead::Got(1));
-        assert_eq!(rt; conn.check(), ConnCheck::Alive);
-        assert_eq!(rt; conn.read(&mut buf), ConnRead::NotYet);
-        assert_eq!(rt; conn.check(), ConnCheck::Failed);
-        assert_eq!(rt; conn.read(&mut buf), ConnRead::Failed);
-        assert_eq!(rt; conn.read(&mut buf), ConnRead::End);
-        assert_eq!(rt; conn.read(&mut buf), ConnRead::End);
-        let text = [7u8; 79];
-        assert_eq!(rt; conn.write(&text), ConnWrite::Wrote(64));
+        let mut conn = connection(&rt);
+        let mut small = [0u8; 2];
+        assert_eq!(rt; conn.read(&mut small), ConnRead::Got(2));
+        assert_eq!(rt; conn.read(&mut small), ConnRead::Got(1));
+        assert!(rt; small.as_slice() == b"cb".as_slice());
+        meets_the_rest(&rt, &mut conn, &mut [0; 4]);
+        assert!(rt; conn.listener() == b"web".as_slice());
+        assert!(rt; conn.from() == FROM && conn.to() == TO);
         let ticket = conn.close();
         assert!(rt; ticket.came.as_slice() == b"abc".as_slice());
-        assert!(rt; ticket.went.as_slice() == &text[..64]);
-        assert!(rt; ticket.ended && ticket.faults == 2);
+        assert!(rt; ticket.ended && ticket.faults == 2 && ticket.number == 0);
+    }
+
+    #[test]
+    fn meets_each_event_whole(rt: HostRuntime) {
+        let mut conn = connection(&rt);
+        let mut buf = [9u8; 4];
+        assert_eq!(rt; conn.read(&mut buf), ConnRead::Got(3));
+        meets_the_rest(&rt, &mut conn, &mut buf);
+        assert!(rt; buf.as_slice() == b"abc\x09".as_slice());
+        let text = [7u8; 79];
+        assert_eq!(rt; conn.write(&text), ConnWrite::Wrote(64));
+        assert_eq!(rt; conn.write(&text[64..]), ConnWrite::Failed);
+        assert_eq!(rt; conn.write(&text[64..]), ConnWrite::Wrote(15));
+        let ticket = conn.close();
+        assert!(rt; ticket.went.as_slice() == text.as_slice());
+        assert!(rt; ticket.faults == 3);
     }
 }

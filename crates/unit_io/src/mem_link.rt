@@ -28,6 +28,7 @@ pub enum LinkEvent {
 pub struct MemLink {
     script: VecDeque<LinkEvent>,
     handed: u64,
+    ended: bool,
     idle: bool,
     faults: u64,
     waits: u64,
@@ -39,7 +40,7 @@ impl Model for MemLink {
 
     ghost Value = { LinkState };
 
-    ghost view = { λ l. record { events = l.script.items; handed = l.handed; idle = l.idle; faults = l.faults; waits = l.waits } };
+    ghost view = { λ l. record { events = l.script.items; handed = l.handed; ended = l.ended; idle = l.idle; faults = l.faults; waits = l.waits } };
 
     ghost invariant = { λ l. All IsFreshEvent l.script.items × (l.handed + length l.script.items < 2 ^ 64) };
 }
@@ -51,11 +52,12 @@ impl MemLink {
     /// A link that has handed out no connection yet.
     pub fn open(script: Vec<LinkEvent>) -> MemLink
         requires { All IsFreshEvent script.items }
-        ensures { result ≡ record { events = script.items; handed = 0; idle = false; faults = 0; waits = 0 } }
+        ensures { result ≡ record { events = script.items; handed = 0; ended = false; idle = false; faults = 0; waits = 0 } }
     {
         MemLink {
             script: VecDeque::from(script),
             handed: 0,
+            ended: false,
             idle: false,
             faults: 0,
             waits: 0,
@@ -71,7 +73,7 @@ impl Link for MemLink {
 
     ghost handed = { λ l. Some (numbers_below l.handed) };
 
-    ghost at_end = { λ l. l.events ≡ [] };
+    ghost at_end = { λ l. l.ended ≡ true };
 
     ghost idle = { λ l. l.idle ≡ true };
 
@@ -87,13 +89,15 @@ impl Link for MemLink {
         ensures fresh_went { (c : MemConn) → result ≡ Accepted.Conn c → IsAtEnd (Some c.went) }
         ensures fresh_faults { (c : MemConn) → result ≡ Accepted.Conn c → c.faults ≡ 0 }
 
-        ensures end { result ≡ Accepted.End → self.new.events ≡ [] }
+        ensures end { result ≡ Accepted.End → self.new.ended ≡ true }
         ensures end_handed { result ≡ Accepted.End → Some (numbers_below self.new.handed) ≡ Some (numbers_below self.old.handed) }
+        ensures kept_end { result ≢ Accepted.End → ((self.new.ended ≡ true) ↔ (self.old.ended ≡ true)) }
 
         ensures not_yet { result ≡ Accepted.NotYet → Rose self.old.waits self.new.waits }
         ensures not_yet_idle { result ≡ Accepted.NotYet → self.new.idle ≡ true }
         ensures not_yet_handed { result ≡ Accepted.NotYet → Some (numbers_below self.new.handed) ≡ Some (numbers_below self.old.handed) }
         ensures ready { result ≢ Accepted.NotYet → self.new.waits ≡ self.old.waits }
+        ensures not_idle { result ≢ Accepted.NotYet → self.new.idle ≡ true → ⊥ }
 
         ensures failed { result ≡ Accepted.Failed → Rose self.old.faults self.new.faults }
         ensures failed_handed { result ≡ Accepted.Failed → Some (numbers_below self.new.handed) ≡ Some (numbers_below self.old.handed) }
@@ -115,7 +119,10 @@ impl Link for MemLink {
                 self.faults = one_more(self.faults);
                 Accepted::Failed
             }
-            None => Accepted::End,
+            None => {
+                self.ended = true;
+                Accepted::End
+            }
         }
     }
 
@@ -126,15 +133,50 @@ impl Link for MemLink {
 
 #[cfg(test)]
 mod tests {
+    ghost use Rattle.unit_io.specs.MemLink.{IsFreshEvent};
+
     use super::*;
+    use crate::conn::Conn;
+    use std::alloc::AllocGlobal;
+    use std::process::Abort;
+    use unit_types::{Addr, Bytes};
+
+    const ADDR: Addr = Addr {
+        ip: 0x7F00_0001,
+        port: 40000,
+    };
+
+    fn connection(rt: &(impl Abort + AllocGlobal)) -> LinkEvent
+        ensures { IsFreshEvent result }
+    {
+        let alloc = rt.alloc();
+        let listener = Bytes::of(Vec::new(alloc));
+        let script = Vec::new(alloc);
+        LinkEvent::Conn(MemConn::open(alloc, script, Vec::new(alloc), listener, ADDR, ADDR))
+    }
+
+    // The number of the connection that came, where one did.
+    fn number_of(answer: Accepted<MemConn>) -> Option<u64> {
+        match answer {
+            Accepted::Conn(conn) => Some(conn.close().number),
+            _ => None,
+        }
+    }
 
     #[test]
-    fn ends_behind_its_script(rt: HostRuntime) {
+    fn meets_each_event_and_then_the_end(rt: HostRuntime) {
         let mut script = Vec::new(rt.alloc());
+        script.push(connection(&rt)).expect(&rt, "pushed");
         script.push(LinkEvent::NotYet).expect(&rt, "pushed");
+        script.push(LinkEvent::Fail).expect(&rt, "pushed");
+        script.push(connection(&rt)).expect(&rt, "pushed");
         let mut link = MemLink::open(script);
+        assert_eq!(rt; number_of(link.accept()), Some(0));
         assert!(rt; matches!(link.accept(), Accepted::NotYet));
         link.rest(&rt);
+        assert!(rt; matches!(link.accept(), Accepted::Failed));
+        assert_eq!(rt; number_of(link.accept()), Some(1));
+        assert!(rt; matches!(link.accept(), Accepted::End));
         assert!(rt; matches!(link.accept(), Accepted::End));
     }
 }

@@ -1,4 +1,4 @@
-use Rattle.std.proofs.Common.{ℕ, ◌*◌, ◌<◌, length, arith}
+use Rattle.std.proofs.Common.{◌*◌, ◌<◌, length, arith}
 use Rattle.std.specs.Arc.{arc_value}
 use Rattle.request_context.specs.Parcels.{PiecesValue, answers_of}
 use Rattle.request_context.specs.Parts.{part_size}

@@ -1,19 +1,12 @@
-use Rattle.std.proofs.Common.{ℕ, ◌*◌, ◌<◌, length, arith}
+use Rattle.std.proofs.Common.{arith}
 use Rattle.std.specs.Arc.{arc_value}
 use Rattle.request_context.specs.Parcels.{answer_of}
-use Rattle.request_context.specs.Parts.{piece_size}
-use Rattle.request_context.proofs.Cuts.{begins_within}
 use Rattle.request_context.proofs.Fits.{few_pieces}
 use Rattle.request_context.proofs.Lists.{one_more}
 use Rattle.request_context.proofs.answering.part_pieces.Goals as goal
 
 pub overflow_cast-count : goal.overflow_cast-count
 overflow_cast-count g c = omega (arith, few_pieces c.args.bytes.now c.requires.short, c.count_stretches-count.ensures)
-
-pub answer_piece-requires-clause-index : goal.answer_piece-requires-clause-index
-answer_piece-requires-clause-index g c =
-    let within : piece_size * c.loop-index.index < length c.args.bytes.now = begins_within piece_size c.args.bytes.now c.loop-index.index (omega arith) (omega (arith, c.count_stretches-count.ensures, c.loop-index-test.true)) in
-    omega (arith, within)
 
 pub loop-index-preserved : goal.loop-index-preserved
 loop-index-preserved g c = record {

@@ -1,7 +1,7 @@
-use Rattle.std.proofs.Common.{◌≡◌, ℕ, ◌+◌, ◌*◌, ◌<◌, List, length, ap, ◌∙◌, arith}
+use Rattle.std.proofs.Common.{ℕ, ◌*◌, ◌<◌, List, length, ap, ◌∙◌, arith}
 use Rattle.request_context.specs.declared.piece.Parcel.TheVariants.{Ask}
 use Rattle.request_context.specs.Parcels.{asks_of}
-use Rattle.request_context.specs.Parts.{piece_size, stretch_count, stretch_of}
+use Rattle.request_context.specs.Parts.{piece_size, stretch_of}
 use Rattle.request_context.proofs.Asks.{asks_are}
 use Rattle.request_context.proofs.Cuts.{begins_within}
 use Rattle.request_context.proofs.Lists.{one_more}
