@@ -22,7 +22,7 @@ returns-in-Filled-clause-got g c place value is =
     let full : entry / n ≡ head / n = search rules in
     subst (λ (x : ℕ). Tells (s.steps ring) v after (IsGot n (s.events ring v) place x)) same'' (subst (λ (p : ℕ). Tells (s.steps ring) v after (IsGot n (s.events ring v) p (entry % n))) same
     (got s.View (s.events ring) (s.steps ring) (g.met.T.RingSteps.logs ring) n head entry v (s.knows c.see_head-head.new.seat) (s.knows c.see_entry-entry.new.seat)
-    c.see_head-head.ensures.was c.see_head-head.ensures.view c.see_entry-entry.ensures.view after full (c.take.ensures.won c.if-take-head.true)))
+    c.see_head-head.ensures.was c.see_head-head.ensures.view c.see_entry-entry.ensures.view c.see_entry-entry.ensures.was after full (c.take.ensures.won c.if-take-head.true)))
 
 pub returns-in_default-clause-lost : goal.returns-in_default-clause-lost
 returns-in_default-clause-lost g c place entry is =
@@ -36,7 +36,7 @@ returns-in_default-clause-lost g c place entry is =
     let full : c.see_entry-entry.result / n ≡ c.see_head-head.result / n = search rules in
     subst (λ (x : ℕ). Tells (s.steps ring) v after (IsPopLost n (s.events ring v) place x)) same' (subst (λ (p : ℕ). Tells (s.steps ring) v after (IsPopLost n (s.events ring v) p c.see_entry-entry.result)) same
     (pop_lost_exchange s.View (s.events ring) (s.steps ring) (g.met.T.RingSteps.logs ring) n c.see_head-head.result c.see_entry-entry.result v (s.knows c.see_head-head.new.seat) (s.knows c.see_entry-entry.new.seat)
-    c.see_head-head.ensures.was c.see_head-head.ensures.view c.see_entry-entry.ensures.view c.take.result after full (c.take.ensures.missed (search rules))))
+    c.see_head-head.ensures.was c.see_head-head.ensures.view c.see_entry-entry.ensures.view c.see_entry-entry.ensures.was c.take.result after full (c.take.ensures.missed (search rules))))
 
 pub returns-in_default-2-clause-lost : goal.returns-in_default-2-clause-lost
 returns-in_default-2-clause-lost g c place entry is =
@@ -52,4 +52,4 @@ returns-in_default-2-clause-lost g c place entry is =
     let later : c.see_head-head.result / n < c.see_entry-entry.result / n = search rules in
     subst (λ (x : ℕ). Tells (s.steps ring) v after (IsPopLost n (s.events ring v) place x)) same' (subst (λ (p : ℕ). Tells (s.steps ring) v after (IsPopLost n (s.events ring v) p c.see_entry-entry.result)) same
     (pop_lost_later s.View (s.events ring) (s.steps ring) (g.met.T.RingSteps.logs ring) n c.see_head-head.result c.see_entry-entry.result v (s.knows c.see_head-head.new.seat) (s.knows c.see_entry-entry.new.seat)
-    c.see_head-head.ensures.was c.see_head-head.ensures.view c.see_entry-entry.ensures.view later))
+    c.see_head-head.ensures.was c.see_head-head.ensures.view c.see_entry-entry.ensures.view c.see_entry-entry.ensures.was later))
