@@ -1,10 +1,10 @@
-use Rattle.std.proofs.Common.{rules, ℕ, ◌≡◌, ◌+◌, ◌/◌, ◌<◌, ◌≤◌, subst, ap, inl, List}
+use Rattle.std.proofs.Common.{rules, ℕ, ◌≡◌, ◌+◌, ◌/◌, ◌<◌, ◌≤◌, subst, ap, inl, inr, List}
 use mathlib.Core.Option.{some}
 use lib.ListN.{get_elem?}
 use Rattle.nncq_ring.specs.declared.view.RingEvent.{RingEvent}
 use Rattle.nncq_ring.specs.declared.view.RingEvent.TheVariants.{SawTail, SawEntry}
 use Rattle.nncq_ring.specs.Turns.{IsDone, IsPushLost, Tells}
-use Rattle.nncq_ring.proofs.Turning.{second_newest, put_shows, done, lost_filled, lost_later, lost_exchange}
+use Rattle.nncq_ring.proofs.Turning.{newest, second_newest, put_shows, done, lost_filled, lost_later, lost_exchange}
 use Rattle.nncq_ring.proofs.turns.push_turn.Goals as goal
 
 pub put-requires-clause-may : goal.put-requires-clause-may
@@ -27,6 +27,17 @@ move_tail-requires-clause-shown g c =
     let ring = c.args.ring.now in
     put_shows s.View (s.events ring) (s.steps ring) (g.met.T.RingSteps.logs ring) (s.slots ring) c.see_tail-tail.result c.args.v (s.knows c.see_entry-entry.new.seat) (s.knows c.put.new.seat)
     (c.put.ensures.won c.if-put-entry.true).0
+
+pub move_tail-requires-in-Filled-clause-shown : goal.move_tail-requires-in-Filled-clause-shown
+move_tail-requires-in-Filled-clause-shown g c =
+    let s = g.T.RingSteps in
+    let ring = c.args.ring.now in
+    let has : c.see_entry-entry.result / s.slots ring ≡ c.see_tail-tail.result / s.slots ring = search rules in
+    inr (
+      c.see_entry-entry.result,
+      newest s.View (s.events ring) (s.steps ring) (g.met.T.RingSteps.logs ring) (SawEntry c.see_tail-tail.result c.see_entry-entry.result) (s.knows c.see_tail-tail.new.seat) (s.knows c.see_entry-entry.new.seat) c.see_entry-entry.ensures.view,
+      has,
+    )
 
 pub returns-in-Vacant-clause-done : goal.returns-in-Vacant-clause-done
 returns-in-Vacant-clause-done g c place is =

@@ -1,0 +1,4 @@
+pub mod Carried
+pub mod Acts
+pub mod RunSlots
+pub mod SlotLaws
