@@ -39,6 +39,22 @@ range_distinct first (suc n) k = ⊎_elim
     (λ ne. omega (arith, is_number_other k first ne, range_distinct (first + 1) n k))
     (cases_eq first k)
 
+range_above : (first n k : ℕ) → first + n ≤ k → times k (range_with_len first n) ≡ 0
+range_above first zero k le = refl
+range_above first (suc n) k le = omega (arith, is_number_other k first (λ e. absurd (omega (arith, e, le))), range_above (first + 1) n k (omega (arith, le)))
+
+-- a number beyond a run isn't counted in it, and one of the run is
+pub out_of_range : (first n k : ℕ) → (k < first) ⊎ (first + n ≤ k) → times k (range_with_len first n) ≡ 0
+out_of_range first n k (inl lt) = range_below first n k lt
+out_of_range first n k (inr le) = range_above first n k le
+
+pub in_range : (first n i : ℕ) → i < n → 1 ≤ times (first + i) (range_with_len first n)
+in_range first zero i lt = absurd (omega (arith, lt))
+in_range first (suc n) i lt = ⊎_elim
+    (λ is. omega (arith, range_last (is_number (first + i)) first n, ap (λ (m : ℕ). is_number (first + m) (first + n)) is, is_number_same (first + n)))
+    (λ ne. omega (arith, range_last (is_number (first + i)) first n, in_range first n i (omega (arith, lt, ne))))
+    (cases_eq i n)
+
 module _ {S : Type 0} where
   -- ---- without
 
@@ -65,13 +81,6 @@ module _ {S : Type 0} where
     gone = λ once i lt. none_content (run_gone first n c) (first + i) (omega (arith, gone_weighs (is_number (first + i)) first n c carried, once (first + i), in_range first n i lt));
     among = λ once. gone_among first n c c (among_itself c once);
   }
-    where
-      in_range : (first n i : ℕ) → i < n → 1 ≤ times (first + i) (range_with_len first n)
-      in_range first zero i lt = absurd (omega (arith, lt))
-      in_range first (suc n) i lt = ⊎_elim
-          (λ is. omega (arith, range_last (is_number (first + i)) first n, ap (λ m. is_number (first + m) (first + n)) is, is_number_same (first + n)))
-          (λ ne. omega (arith, range_last (is_number (first + i)) first n, in_range first n i (omega (arith, lt, ne))))
-          (cases_eq i n)
 
   -- ---- with
 

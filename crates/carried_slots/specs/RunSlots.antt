@@ -10,6 +10,10 @@ HasEmpty first n c = (i : ℕ) → i < n → content c (first + i) ≡ Some None
 abbrev pub HasValues : {T : Type 0} → ℕ → List T → List (ℕ × Option T) → Type 0
 HasValues first values c = (i : ℕ) → i < length values → content c (first + i) ≡ Some (slice_get values i)
 
+-- the n slots from this number on are carried, and have values
+abbrev pub HasFull : {T : Type 0} → ℕ → ℕ → List (ℕ × Option T) → Type 0
+HasFull {T} first n c = (i : ℕ) → i < n → (value : T) × (content c (first + i) ≡ Some (Some value))
+
 -- all other slots than the n from this number on are what they were
 abbrev pub SameElsewhere : {T : Type 0} → ℕ → ℕ → List (ℕ × Option T) → List (ℕ × Option T) → Type 0
 SameElsewhere first n c c' = (k : ℕ) → (k < first) ⊎ (first + n ≤ k) → content c' k ≡ content c k

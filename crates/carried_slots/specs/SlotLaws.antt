@@ -4,10 +4,11 @@ use Rattle.std.specs.List.{range_with_len}
 use mathlib.Core.Option.{some}
 use lib.ListN.{get_elem?}
 use Rattle.atomic_table.specs.Table.{Valid, homes_after, carried_after}
-use Rattle.unit_model.specs.Weights.{weigh, times}
+use Rattle.unit_model.specs.Weights.{weigh, is_number, times}
 use Rattle.carried_slots.specs.Carried.{content, numbers, but, front, IsDistinct, Among}
 use Rattle.carried_slots.specs.Acts.{takes_all, becomes, AtHome}
-use Rattle.carried_slots.specs.RunSlots.{HasNone, run_gone, run_of}
+use Rattle.carried_slots.specs.RunSlots.{HasNone, HasValues, run_gone, run_of}
+use Rattle.carried_slots.specs.EmptySlots.{without_empty, empty_weight, full_slots, found_or_empty}
 
 -- ---- acts
 
@@ -83,3 +84,22 @@ pub record RunTaken {S : Type 0} (first : ℕ) (values : List S) (c : List (ℕ 
 
 abbrev pub RunTakenLaw : Type 0 → Type 0
 RunTakenLaw S = (first : ℕ) (values : List S) (c : List (ℕ × S)) → RunTaken first values c
+
+-- ---- empty slots
+
+-- An empty slot that is carried goes.
+pub record EmptyGone {T : Type 0} (k : ℕ) (c : List (ℕ × Option T)) : Type 0 where
+  pub weighs : (f : ℕ → ℕ) → 0 < empty_weight (is_number k) c → empty_weight f (without_empty k c) + f k ≡ empty_weight f c
+  pub full : full_slots (without_empty k c) ≡ full_slots c
+  pub gone : content c k ≡ Some None → without_empty k c ≡ but k c
+
+abbrev pub EmptyGoneLaw : Type 0 → Type 0
+EmptyGoneLaw T = (c : List (ℕ × Option T)) (k : ℕ) → EmptyGone k c
+
+-- What a slot has is told by the slots with values and the weight of the empty ones.
+abbrev pub KnownLaw : Type 0 → Type 0
+KnownLaw T = (c : List (ℕ × Option T)) (k : ℕ) → IsDistinct c → content c k ≡ found_or_empty (content (full_slots c) k) (empty_weight (is_number k) c)
+
+-- Two lists of values that the same slots have are one.
+abbrev pub SameValuesLaw : Type 0 → Type 0
+SameValuesLaw T = (first : ℕ) (xs ys : List T) (c : List (ℕ × Option T)) → HasValues first xs c → HasValues first ys c → length xs ≡ length ys → xs ≡ ys

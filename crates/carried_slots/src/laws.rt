@@ -1,5 +1,5 @@
 //! Laws on acts and on carried slots. Each function does nothing: its contract is the law.
-ghost use Rattle.carried_slots.specs.SlotLaws.{BecomesLaw, BroughtLaw, ContentLaw, RunGoneLaw, RunTakenLaw, TakenLaw, WithoutLaw};
+ghost use Rattle.carried_slots.specs.SlotLaws.{BecomesLaw, BroughtLaw, ContentLaw, EmptyGoneLaw, KnownLaw, RunGoneLaw, RunTakenLaw, SameValuesLaw, TakenLaw, WithoutLaw};
 
 /// What a seat carries becomes any of its slots, in any order: the others go home with their values, and no other slot of the
 /// table moves.
@@ -35,4 +35,19 @@ pub fn a_run_is_without<S>()
 /// With the slots of a run each of these has its value, and the others have the values that they had.
 pub fn a_run_is_taken<S>()
     ensures { RunTakenLaw S }
+{}
+
+/// An empty slot goes, and the slots with values stay as they are.
+pub fn an_empty_slot_goes<T>()
+    ensures { EmptyGoneLaw T }
+{}
+
+/// The slots with values and the weight of the empty ones tell what each slot has.
+pub fn a_slot_is_known<T>()
+    ensures { KnownLaw T }
+{}
+
+/// The slots of a run have one list of values, so that what is read in order is what was filled in order.
+pub fn slots_have_one_list_of_values<T>()
+    ensures { SameValuesLaw T }
 {}

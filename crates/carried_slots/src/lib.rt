@@ -9,5 +9,6 @@ mod laws;
 
 pub use laws::{
     a_carried_slot_has_a_value, a_run_is_taken, a_run_is_without, a_slot_comes_to_the_front,
-    a_slot_is_without, slots_are_taken, slots_become_others,
+    a_slot_is_known, a_slot_is_without, an_empty_slot_goes, slots_are_taken, slots_become_others,
+    slots_have_one_list_of_values,
 };
