@@ -1,9 +1,10 @@
 -- Words by blocks of whole groups of 16 words, one behind the other: no two words stand in one place.
-use Rattle.std.proofs.Common.{ℕ, zero, suc, ◌+◌, ◌-◌, ◌*◌, ◌/◌, ◌%◌, ◌≡◌, ◌≤◌, ◌<◌, nat_lt, inl, inr, cond, refl, sym, ap, ap₂, ◌∙◌, arith}
+use Rattle.std.proofs.Common.{ℕ, zero, suc, ◌+◌, ◌-◌, ◌*◌, ◌/◌, ◌%◌, ◌≡◌, ◌≤◌, ◌<◌, nat_lt, true, inl, inr, cond, refl, sym, ap, ap₂, ◌∙◌, arith}
 use Rattle.std.proofs.lemmas.Bool.{cases_eq, cases_lt, le-ltb}
 use Rattle.unit_model.specs.Holding.{items_of}
 use Rattle.unit_model.specs.Weights.{below}
 use Rattle.unit_model.specs.declared.shape.Shape.{Shape}
+use Rattle.fabric_words.specs.Offsets.{is_shared}
 use Rattle.fabric_words.specs.Places.{IsThere, queues_of, segments_of}
 use Rattle.fabric_words.specs.declared.place.Place.{Place}
 use Rattle.fabric_words.specs.declared.place.Place.TheVariants.{NextStream, OpenedOut, OpenedBack, Head, Tail, Slot, Tag, RunWord, PartWord, Chunks}
@@ -185,6 +186,22 @@ block_is_there shape (Tag q i) there = omega (arith, there.in_queues)
 block_is_there shape (RunWord q i) there = omega (arith, there.in_queues)
 block_is_there shape (PartWord q i) there = omega (arith, there.in_queues)
 
+-- a block of a word that many threads change has this word alone
+shared_block : (place : Place) (i : ℕ) → is_shared place ≡ true → place_of (block_of place) i ≡ place
+unfolding first_place kind_place
+shared_block NextStream i is = refl
+shared_block OpenedOut i is = refl
+shared_block OpenedBack i is = refl
+shared_block (Head q FreeSide) i is = in_queue (λ b. first_place b i) (λ k q. kind_place k q i) 0 q (omega arith)
+shared_block (Tail q FreeSide) i is = in_queue (λ b. first_place b i) (λ k q. kind_place k q i) 1 q (omega arith)
+shared_block (Head q LineSide) i is = in_queue (λ b. first_place b i) (λ k q. kind_place k q i) 3 q (omega arith)
+shared_block (Tail q LineSide) i is = in_queue (λ b. first_place b i) (λ k q. kind_place k q i) 4 q (omega arith)
+shared_block (Slot q s slot) i is = absurd (cc is)
+shared_block (Tag q item) i is = absurd (cc is)
+shared_block (RunWord q item) i is = absurd (cc is)
+shared_block (PartWord q item) i is = absurd (cc is)
+shared_block (Chunks number) i is = absurd (cc is)
+
 -- ---- where words stand
 
 -- two words in one group of 16 are of one block, and in one group of it
@@ -206,3 +223,20 @@ stands_once shape place other there also same =
 pub stands_within : (shape : Shape) (place : Place) → IsThere shape place → stand_of shape place < 16 * (1 + below (groups_of shape) (4 + 7 * queues_of shape))
 stands_within shape place there =
     omega (arith, index_in_block shape place there, below_more (groups_of shape) (block_of place) (4 + 7 * queues_of shape) (block_is_there shape place there))
+
+-- ---- groups of 16 words
+
+pub shared_alone : (shape : Shape) (place other : Place) → IsThere shape place → IsThere shape other → is_shared place ≡ true → stand_of shape place / 16 ≡ stand_of shape other / 16 → place ≡ other
+shared_alone shape place other there also shared same =
+    let is = one_group shape place other there also same in
+    sym (shared_block place (index_of other) shared) ∙ ap (λ (b : ℕ). place_of b (index_of other)) is.0 ∙ place_is other
+
+pub segment_alone : (shape : Shape) (number : ℕ) (other : Place) → IsThere shape (Chunks number) → IsThere shape other → stand_of shape (Chunks number) / 16 ≡ stand_of shape other / 16
+    → (k : ℕ) × (other ≡ Chunks k) × (k / 10 ≡ number / 10)
+unfolding first_place
+segment_alone shape number other there also same =
+    let is = one_group shape (Chunks number) other there also same in
+    let k : ℕ = index_of other / 16 * 10 + index_of other % 16 in
+    let of_map : other ≡ Chunks k = sym (place_is other) ∙ ap (λ (b : ℕ). place_of b (index_of other)) (sym is.0) in
+    let index : index_of other ≡ 16 * (k / 10) + k % 10 = ap index_of of_map in
+    (k, of_map, omega (arith, index, is.1))

@@ -18,7 +18,7 @@ use Rattle.unit_model.specs.declared.machine.Entry.{Entry}
 use Rattle.unit_model.specs.declared.machine.Item.{Item}
 use Rattle.unit_model.specs.declared.machine.Step.{Step}
 use Rattle.unit_model.specs.declared.shape.Shape.{Shape}
-use Rattle.fabric_words.specs.Places.{HasItem, Sets, queues_of, segments_of, ring_of, map_of}
+use Rattle.fabric_words.specs.Places.{HasItem, Sets, is_of_ring, is_same_side, queues_of, segments_of, ring_of, map_of}
 use Rattle.fabric_words.specs.Shown.{entry_at, ShowsList, ShowsItem, Shows, IsStep}
 use Rattle.fabric_words.specs.declared.place.Place.{Place}
 use Rattle.fabric_words.specs.declared.place.Place.TheVariants.{NextStream, OpenedOut, OpenedBack, Head, Tail, Slot, Tag, RunWord, PartWord, Chunks}
@@ -27,41 +27,11 @@ use Rattle.fabric_words.specs.declared.place.Side.TheVariants.{FreeSide, LineSid
 
 -- ---- which ring a word is of
 
-abbrev pub is_same_side : Side → Side → Bool
-is_same_side FreeSide FreeSide = true
-is_same_side FreeSide LineSide = false
-is_same_side LineSide FreeSide = false
-is_same_side LineSide LineSide = true
-
-abbrev pub is_of_ring : ℕ → Side → Place → Bool
-is_of_ring queue side NextStream = false
-is_of_ring queue side OpenedOut = false
-is_of_ring queue side OpenedBack = false
-is_of_ring queue side (Head q s) = queue == q && is_same_side side s
-is_of_ring queue side (Tail q s) = queue == q && is_same_side side s
-is_of_ring queue side (Slot q s slot) = queue == q && is_same_side side s
-is_of_ring queue side (Tag q i) = false
-is_of_ring queue side (RunWord q i) = false
-is_of_ring queue side (PartWord q i) = false
-is_of_ring queue side (Chunks k) = false
-
-abbrev pub is_of_rings : Place → Bool
-is_of_rings NextStream = false
-is_of_rings OpenedOut = false
-is_of_rings OpenedBack = false
-is_of_rings (Head q s) = true
-is_of_rings (Tail q s) = true
-is_of_rings (Slot q s slot) = true
-is_of_rings (Tag q i) = false
-is_of_rings (RunWord q i) = false
-is_of_rings (PartWord q i) = false
-is_of_rings (Chunks k) = false
-
 -- a place that passes a test is none that fails it
 pub apart : (test : Place → Bool) (one other : Place) → test one ≡ true → test other ≡ false → one ≢ other
 apart test one other passes fails is = absurd (cc (passes, fails, ap test is))
 
-own_ring : (queue : ℕ) (side : Side) → (queue == queue && is_same_side side side) ≡ true
+pub own_ring : (queue : ℕ) (side : Side) → (queue == queue && is_same_side side side) ≡ true
 own_ring queue FreeSide = rw (eq-eqb queue queue refl) refl
 own_ring queue LineSide = rw (eq-eqb queue queue refl) refl
 

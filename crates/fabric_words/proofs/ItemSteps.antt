@@ -27,13 +27,13 @@ use Rattle.unit_model.specs.declared.machine.Seat.{Seat as SeatLists}
 use Rattle.unit_model.specs.declared.machine.Step.TheVariants.{SetRun, SetPart, Arm, Settle}
 use Rattle.unit_model.specs.declared.runs.Run.{Run}
 use Rattle.fabric_words.specs.Laws.{SetRunLaw, SetPartLaw, ArmLaw, SettleLaw}
-use Rattle.fabric_words.specs.Places.{HasItem, Sets, ring_of}
+use Rattle.fabric_words.specs.Places.{HasItem, Sets, ring_of, is_of_ring}
 use Rattle.fabric_words.specs.Shown.{ShowsList, ShowsItem, Shows, is_owned_by_none}
 use Rattle.fabric_words.specs.declared.place.Place.{Place}
 use Rattle.fabric_words.specs.declared.place.Place.TheVariants.{NextStream, OpenedOut, OpenedBack, Head, Tail, Slot, Tag, RunWord, PartWord, Chunks}
 use Rattle.fabric_words.specs.declared.place.Side.{Side}
 use Rattle.fabric_words.specs.declared.place.Side.TheVariants.{FreeSide, LineSide}
-use Rattle.fabric_words.proofs.Frames.{is_of_ring, list_stays, item_stays, chunk_stays, item_there, step_of}
+use Rattle.fabric_words.proofs.Frames.{list_stays, item_stays, chunk_stays, item_there, step_of}
 
 -- ---- which item a word is of
 

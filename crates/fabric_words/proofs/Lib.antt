@@ -1,8 +1,10 @@
 pub mod Blocks
+pub mod Filling
 pub mod Frames
 pub mod ItemSteps
 pub mod OneCore
 pub mod Opened
 pub mod OtherSteps
+pub mod OwnPremises
 pub mod RingSteps
 pub mod Standing

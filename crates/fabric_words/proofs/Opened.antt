@@ -65,9 +65,9 @@ opened_shows shape word valid opened = record {
   out = opened.out;
   back = opened.back;
   free = λ q there. subst (λ (k : Queue). ShowsList (items_of shape q) (ring_of word q FreeSide) k.free k.next_free) (sym (fresh_there shape q there))
-      (starts_full (items_of shape q) shape.start (ring_of word q FreeSide) (sizes shape q valid).0 (sizes shape q valid).1 (opened.free q there));
+      (starts_full (items_of shape q) shape.start (ring_of word q FreeSide) (sizes shape q valid).0 (sizes shape q valid).1 (opened.rings q there).free);
   line = λ q there. subst (λ (k : Queue). ShowsList (items_of shape q) (ring_of word q LineSide) k.line k.next_line) (sym (fresh_there shape q there))
-      (starts_empty (items_of shape q) shape.start (ring_of word q LineSide) (sizes shape q valid).0 (sizes shape q valid).1 (opened.line q there));
+      (starts_empty (items_of shape q) shape.start (ring_of word q LineSide) (sizes shape q valid).0 (sizes shape q valid).1 (opened.rings q there).line);
   items = λ q i there.
       let is : item_of (opened_core shape) q i ≡ blank = ap (λ (k : Queue). get_or k.items i blank) (fresh_there shape q there.in_queues) ∙ get_or-replicate (items_of shape q) i blank blank there.in_items in
       subst (ShowsItem word q i) (sym is) (record { tag = opened.tag q i there; run = ap numbers_of (opened.run q i there); part = opened.part q i there });

@@ -21,13 +21,13 @@ use Rattle.unit_model.specs.declared.machine.Seat.{Seat as SeatLists}
 use Rattle.unit_model.specs.declared.machine.Sides.{Sides}
 use Rattle.unit_model.specs.declared.machine.Step.TheVariants.{Draw, Claim, Release, Open, Abandon}
 use Rattle.fabric_words.specs.Laws.{DrawLaw, ClaimLaw, ReleaseLaw, OpenLaw, AbandonLaw, StayLaw}
-use Rattle.fabric_words.specs.Places.{Sets, SetsChunk, Stays, segments_of, map_of, opened_place}
+use Rattle.fabric_words.specs.Places.{Sets, SetsChunk, Stays, segments_of, map_of, opened_place, is_of_ring}
 use Rattle.fabric_words.specs.Shown.{Shows, is_owned_by_none}
 use Rattle.fabric_words.specs.declared.place.Place.{Place}
 use Rattle.fabric_words.specs.declared.place.Place.TheVariants.{NextStream, OpenedOut, OpenedBack, Head, Tail, Slot, Tag, RunWord, PartWord, Chunks}
 use Rattle.fabric_words.specs.declared.place.Side.{Side}
 use Rattle.fabric_words.specs.declared.place.Side.TheVariants.{FreeSide, LineSide}
-use Rattle.fabric_words.proofs.Frames.{is_of_ring, list_stays, item_stays, chunk_stays, step_of}
+use Rattle.fabric_words.proofs.Frames.{list_stays, item_stays, chunk_stays, step_of}
 
 -- a word of a ring or of an item
 abbrev pub is_of_queues : Place → Bool

@@ -26,13 +26,13 @@ use Rattle.unit_model.specs.declared.machine.Whereabouts.{Whereabouts}
 use Rattle.unit_model.specs.declared.machine.Whereabouts.TheVariants.{InFreeList, InLine, WithSeat}
 use Rattle.fabric_words.specs.Laws.{PushLaw, PopLaw, GetItemLaw, GiveItemLaw, HelpLaw}
 use Rattle.fabric_words.specs.Needs.{IsVacant, IsFirst}
-use Rattle.fabric_words.specs.Places.{HasItem, Sets, queues_of, ring_of}
+use Rattle.fabric_words.specs.Places.{HasItem, Sets, queues_of, ring_of, is_of_rings, is_of_ring}
 use Rattle.fabric_words.specs.Shown.{entry_at, ShowsList, ShowsItem, Shows}
 use Rattle.fabric_words.specs.declared.place.Place.{Place}
 use Rattle.fabric_words.specs.declared.place.Place.TheVariants.{NextStream, OpenedOut, OpenedBack, Head, Tail, Slot, Tag, RunWord, PartWord, Chunks}
 use Rattle.fabric_words.specs.declared.place.Side.{Side}
 use Rattle.fabric_words.specs.declared.place.Side.TheVariants.{FreeSide, LineSide}
-use Rattle.fabric_words.proofs.Frames.{is_of_rings, is_of_ring, other_queue, other_side, list_stays, item_stays, chunk_stays, item_there, step_of}
+use Rattle.fabric_words.proofs.Frames.{other_queue, other_side, list_stays, item_stays, chunk_stays, item_there, step_of}
 
 -- ---- one queue changes
 

@@ -4,13 +4,13 @@ use Rattle.std.proofs.lemmas.Bool.{ne_eqb}
 use Rattle.unit_model.specs.Holding.{items_of}
 use Rattle.unit_model.specs.Weights.{below}
 use Rattle.unit_model.specs.declared.shape.Shape.{Shape}
-use Rattle.fabric_words.specs.Offsets.{rounded, ring_width, queue_width, queue_start, ring_start, item_start, offset_of, width_of, WithinLaw, ApartLaw, SetWordLaw}
+use Rattle.fabric_words.specs.Offsets.{rounded, ring_width, queue_width, queue_start, ring_start, item_start, offset_of, width_of, WithinLaw, ApartLaw, SharedLaw, MapLaw, SetWordLaw}
 use Rattle.fabric_words.specs.Places.{queues_of, segments_of}
 use Rattle.fabric_words.specs.declared.place.Place.{Place}
 use Rattle.fabric_words.specs.declared.place.Place.TheVariants.{NextStream, OpenedOut, OpenedBack, Head, Tail, Slot, Tag, RunWord, PartWord, Chunks}
 use Rattle.fabric_words.specs.declared.place.Side.{Side}
 use Rattle.fabric_words.specs.declared.place.Side.TheVariants.{FreeSide, LineSide}
-use Rattle.fabric_words.proofs.Blocks.{groups_for, queue_block, kind_groups, groups_of, groups_in_queue, stand_of, stands_once, stands_within}
+use Rattle.fabric_words.proofs.Blocks.{groups_for, queue_block, kind_groups, groups_of, groups_in_queue, stand_of, stands_once, stands_within, shared_alone, segment_alone}
 
 module _ (shape : Shape) (q : ℕ) where
   -- the groups before the k-th block of the queue
@@ -84,6 +84,16 @@ within shape place there = omega (arith, offset_is shape place, stands_within sh
 
 pub apart_in_list : ApartLaw
 apart_in_list shape place other there also same = stands_once shape place other there also (sym (offset_is shape place) ∙ same ∙ offset_is shape other)
+
+in_groups : (shape : Shape) (place other : Place) → offset_of shape place / 16 ≡ offset_of shape other / 16 → stand_of shape place / 16 ≡ stand_of shape other / 16
+in_groups shape place other same =
+    ap (λ (n : ℕ). n / 16) (sym (offset_is shape place)) ∙ same ∙ ap (λ (n : ℕ). n / 16) (offset_is shape other)
+
+pub shared_apart : SharedLaw
+shared_apart shape place other there also shared same = shared_alone shape place other there also shared (in_groups shape place other same)
+
+pub map_apart : MapLaw
+map_apart shape number other there also same = segment_alone shape number other there also (in_groups shape (Chunks number) other same)
 
 pub set_word : SetWordLaw
 set_word shape words place x wide there = record {

@@ -4,5 +4,6 @@ pub mod Makes
 pub mod Needs
 pub mod Offsets
 pub mod Opened
+pub mod OwnWords
 pub mod Places
 pub mod Shown

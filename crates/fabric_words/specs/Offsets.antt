@@ -1,7 +1,7 @@
 -- Where each word of a fabric stands in one list of words. Words that many threads change stand 16 words apart, which is 128
 -- bytes, so that no two of them share a cache line: the next stream, the numbers of open segments, the map words of each
 -- segment, and the head and the tail of each ring. Word 0 is of no use and never changes.
-use Rattle.std.specs.Prelude.{ℕ, ◌+◌, ◌-◌, ◌*◌, ◌/◌, ◌%◌, ◌≡◌, ◌≤◌, ◌<◌, ◌==◌, if◌then◌else◌, List, length, set, slice_index}
+use Rattle.std.specs.Prelude.{ℕ, ◌+◌, ◌-◌, ◌*◌, ◌/◌, ◌%◌, ◌≡◌, ◌≤◌, ◌<◌, ◌==◌, Bool, true, false, if◌then◌else◌, List, length, set, slice_index}
 use Rattle.unit_model.specs.Holding.{items_of}
 use Rattle.unit_model.specs.declared.shape.Shape.{Shape}
 use Rattle.fabric_words.specs.Places.{IsThere, Sets, queues_of, segments_of}
@@ -73,6 +73,31 @@ abbrev pub ApartLaw : Type 0
 ApartLaw = (shape : Shape) (place other : Place) → IsThere shape place → IsThere shape other
     → offset_of shape place ≡ offset_of shape other
     → place ≡ other
+
+-- a word that many threads change, and that is none of the map
+abbrev pub is_shared : Place → Bool
+is_shared NextStream = true
+is_shared OpenedOut = true
+is_shared OpenedBack = true
+is_shared (Head queue side) = true
+is_shared (Tail queue side) = true
+is_shared (Slot queue side slot) = false
+is_shared (Tag queue item) = false
+is_shared (RunWord queue item) = false
+is_shared (PartWord queue item) = false
+is_shared (Chunks number) = false
+
+-- such a word has 16 words for itself
+abbrev pub SharedLaw : Type 0
+SharedLaw = (shape : Shape) (place other : Place) → IsThere shape place → IsThere shape other
+    → is_shared place ≡ true → offset_of shape place / 16 ≡ offset_of shape other / 16
+    → place ≡ other
+
+-- and so have the map words of each segment
+abbrev pub MapLaw : Type 0
+MapLaw = (shape : Shape) (number : ℕ) (other : Place) → IsThere shape (Chunks number)
+    → IsThere shape other → offset_of shape (Chunks number) / 16 ≡ offset_of shape other / 16
+    → (k : ℕ) × (other ≡ Chunks k) × (k / 10 ≡ number / 10)
 
 -- a word of the list that is set where a place stands is this word alone
 abbrev pub SetWordLaw : Type 0

@@ -1,5 +1,5 @@
 -- Which words a fabric of a shape has, and changes of them. Words are a function of their places.
-use Rattle.std.specs.Prelude.{ℕ, ◌+◌, ◌*◌, ◌/◌, ◌%◌, ◌≡◌, ◌≢◌, ◌<◌, ◌==◌, if◌then◌else◌}
+use Rattle.std.specs.Prelude.{ℕ, ◌+◌, ◌*◌, ◌/◌, ◌%◌, ◌≡◌, ◌≢◌, ◌<◌, ◌==◌, ◌&&◌, Bool, true, false, if◌then◌else◌}
 use Rattle.chunk_map.specs.Words.{SetsBit}
 use Rattle.nncq_ring.specs.Words.{Words}
 use Rattle.unit_model.specs.Holding.{items_of}
@@ -8,6 +8,7 @@ use Rattle.unit_model.specs.declared.shape.Shape.{Shape}
 use Rattle.fabric_words.specs.declared.place.Place.{Place}
 use Rattle.fabric_words.specs.declared.place.Place.TheVariants.{NextStream, OpenedOut, OpenedBack, Head, Tail, Slot, Tag, RunWord, PartWord, Chunks}
 use Rattle.fabric_words.specs.declared.place.Side.{Side}
+use Rattle.fabric_words.specs.declared.place.Side.TheVariants.{FreeSide, LineSide}
 
 -- ---- what is there
 
@@ -70,3 +71,50 @@ map_of word number = word (Chunks number)
 -- the word that says how many segments of a seat's side are open
 abbrev pub opened_place : Shape → ℕ → Place
 opened_place shape seat = if role_in shape seat == 0 then OpenedOut else OpenedBack
+
+-- ---- what a word is of
+
+abbrev pub is_same_side : Side → Side → Bool
+is_same_side FreeSide FreeSide = true
+is_same_side FreeSide LineSide = false
+is_same_side LineSide FreeSide = false
+is_same_side LineSide LineSide = true
+
+-- whether the word is one of this ring
+abbrev pub is_of_ring : ℕ → Side → Place → Bool
+is_of_ring queue side NextStream = false
+is_of_ring queue side OpenedOut = false
+is_of_ring queue side OpenedBack = false
+is_of_ring queue side (Head q s) = queue == q && is_same_side side s
+is_of_ring queue side (Tail q s) = queue == q && is_same_side side s
+is_of_ring queue side (Slot q s slot) = queue == q && is_same_side side s
+is_of_ring queue side (Tag q i) = false
+is_of_ring queue side (RunWord q i) = false
+is_of_ring queue side (PartWord q i) = false
+is_of_ring queue side (Chunks k) = false
+
+-- whether it is one of any ring
+abbrev pub is_of_rings : Place → Bool
+is_of_rings NextStream = false
+is_of_rings OpenedOut = false
+is_of_rings OpenedBack = false
+is_of_rings (Head q s) = true
+is_of_rings (Tail q s) = true
+is_of_rings (Slot q s slot) = true
+is_of_rings (Tag q i) = false
+is_of_rings (RunWord q i) = false
+is_of_rings (PartWord q i) = false
+is_of_rings (Chunks k) = false
+
+-- whether the word is one of the map
+abbrev pub is_of_map : Place → Bool
+is_of_map NextStream = false
+is_of_map OpenedOut = false
+is_of_map OpenedBack = false
+is_of_map (Head q s) = false
+is_of_map (Tail q s) = false
+is_of_map (Slot q s slot) = false
+is_of_map (Tag q i) = false
+is_of_map (RunWord q i) = false
+is_of_map (PartWord q i) = false
+is_of_map (Chunks k) = true

@@ -2,7 +2,8 @@
 //! contract is the law. `specs/Makes.antt` says which word each step changes, and `specs/Needs.antt` what a seat needs for it.
 ghost use Rattle.fabric_words.specs.CoreOf.{ShownIsCoreOf};
 ghost use Rattle.fabric_words.specs.Laws.{AbandonLaw, ArmLaw, ClaimLaw, DrawLaw, GetItemLaw, GiveItemLaw, HelpLaw, OpenLaw, OpenedLaw, PopLaw, PushLaw, ReleaseLaw, SetPartLaw, SetRunLaw, SettleLaw, StayLaw};
-ghost use Rattle.fabric_words.specs.Offsets.{ApartLaw, SetWordLaw, WithinLaw};
+ghost use Rattle.fabric_words.specs.Offsets.{ApartLaw, MapLaw, SetWordLaw, SharedLaw, WithinLaw};
+ghost use Rattle.fabric_words.specs.OwnWords.{PosterIsShown, RingIsLeft, TakenIsShown};
 
 // ---- steps
 
@@ -95,11 +96,26 @@ pub fn words_and_holdings_are_the_core()
     ensures { ShownIsCoreOf }
 {}
 
+/// A stream that a seat posted and didn't cancel, and that no tag of queue 0 is, was taken. The part word of an item of queue
+/// 0 with a tag is the seat that posted it.
+pub fn own_words_show_the_rest()
+    ensures taken { TakenIsShown }
+    ensures poster { PosterIsShown }
+{}
+
+/// A ring of which no word is set stays as it was, with all notes on it.
+pub fn rings_are_left()
+    ensures { RingIsLeft }
+{}
+
 // ---- the layout
 
-/// Words that are there stand within the list, no two in one place; so a word that is set changes no other.
+/// Words that are there stand within the list, no two in one place; so a word that is set changes no other. A head, a tail,
+/// the next stream and a number of open segments have 16 words for themselves each, and so have the map words of a segment.
 pub fn words_stand_apart()
     ensures within { WithinLaw }
     ensures apart { ApartLaw }
+    ensures shared { SharedLaw }
+    ensures map { MapLaw }
     ensures set { SetWordLaw }
 {}

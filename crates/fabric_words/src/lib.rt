@@ -3,6 +3,8 @@
 #![tactic(auto)]
 
 mod laws;
+mod layout;
+mod opening;
 mod place;
 
 pub use laws::{
@@ -10,6 +12,8 @@ pub use laws::{
     a_helped_tail_is_no_step, a_look_is_no_step, a_part_is_a_step, a_pop_is_a_step,
     a_push_is_a_step, a_release_is_a_step, a_run_is_a_step, a_settle_is_a_step,
     an_abandon_is_a_step, an_arm_is_a_step, an_opening_is_a_step,
-    opened_words_show_the_opened_core, words_and_holdings_are_the_core, words_stand_apart,
+    opened_words_show_the_opened_core, own_words_show_the_rest, rings_are_left,
+    words_and_holdings_are_the_core, words_stand_apart,
 };
+pub use layout::Layout;
 pub use place::{Place, Side};
