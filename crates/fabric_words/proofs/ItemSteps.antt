@@ -26,7 +26,7 @@ use Rattle.unit_model.specs.declared.machine.Queue.{Queue}
 use Rattle.unit_model.specs.declared.machine.Seat.{Seat as SeatLists}
 use Rattle.unit_model.specs.declared.machine.Step.TheVariants.{SetRun, SetPart, Arm, Settle}
 use Rattle.unit_model.specs.declared.runs.Run.{Run}
-use Rattle.fabric_words.specs.Laws.{SetRunLaw, SetPartLaw, ArmLaw, SettleLaw}
+use Rattle.fabric_words.specs.Laws.{SetRunLaw, SetPartLaw, ArmLaw, SettleLaw, ArmGivesRun, SettleGivesRun}
 use Rattle.fabric_words.specs.Places.{HasItem, Sets, ring_of, is_of_ring}
 use Rattle.fabric_words.specs.Shown.{ShowsList, ShowsItem, Shows, is_owned_by_none}
 use Rattle.fabric_words.specs.declared.place.Place.{Place}
@@ -200,3 +200,33 @@ set_part_step seat queue item part word word' core sound shows needs sets =
       part = sets.here;
     })
     (λ number. refl))
+
+-- ---- who has the chunks
+
+-- in the run the new owner has the chunks
+run_goes : (core : Core) (queue : ℕ) (run : Run) (owner : Owner) → IsSound core → FitsQueue core.shape queue run → (number : ℕ) → IsInRun run number
+    → get_or (set_all core.owners (chunk_number run.segment run.chunk) (chunks_for run.size) owner) number Free ≡ owner
+run_goes core queue run owner sound fits number within =
+    elim (owner_cases core.owners run owner (run_is_there core queue run sound.held.shape fits) number) [
+      | inl inside ↦ inside.1
+      | inr outside ↦ absurd (outside.0 within)
+    ]
+
+pub arm_gives_run : ArmGivesRun
+unfolding after_step with_item with_note with_run_owner
+arm_gives_run word core sound shows seat queue item stream needs number within =
+    let there : HasItem core.shape queue item = item_there core queue item sound.held.shape (hand_is_there core seat queue item needs.hand) in
+    let run : Run = (item_of core queue item).run in
+    let is : numbers_of (word (RunWord queue item)) ≡ run = (shows.items queue item there).run in
+    let mine : OwnsRun core seat queue run = subst (OwnsRun core seat queue) is needs.owns in
+    let inside : IsInRun run number = subst (λ (r : Run). IsInRun r number) is within in
+    (mine.owns number inside, run_goes core queue run (Message queue item) sound mine.fits number inside)
+
+pub settle_gives_run : SettleGivesRun
+unfolding after_step with_item with_note with_run_owner
+settle_gives_run word core sound shows seat queue item stream needs number within =
+    let run : Run = (item_of core queue item).run in
+    let shown = shows.items queue item needs.there in
+    let armed : IsArmed core queue item = λ none. needs.armed (sym needs.tag ∙ shown.tag ∙ none) in
+    let inside : IsInRun run number = subst (λ (r : Run). IsInRun r number) shown.run within in
+    (sound.held.owners.runs number queue item armed inside, run_goes core queue run (Seat seat) sound (sound.held.owners.fits queue item armed) number inside)

@@ -8,3 +8,4 @@ pub mod OtherSteps
 pub mod OwnPremises
 pub mod RingSteps
 pub mod Standing
+pub mod Steps

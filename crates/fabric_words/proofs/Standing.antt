@@ -80,7 +80,7 @@ offset_is shape (PartWord q item) = omega (arith, start_is shape q, (kinds shape
 -- ---- the laws
 
 pub within : WithinLaw
-within shape place there = omega (arith, offset_is shape place, stands_within shape place there, start_is shape (queues_of shape))
+within shape place there = (omega (arith, offset_is shape place), omega (arith, offset_is shape place, stands_within shape place there, start_is shape (queues_of shape)))
 
 pub apart_in_list : ApartLaw
 apart_in_list shape place other there also same = stands_once shape place other there also (sym (offset_is shape place) ∙ same ∙ offset_is shape other)
@@ -97,6 +97,6 @@ map_apart shape number other there also same = segment_alone shape number other 
 
 pub set_word : SetWordLaw
 set_word shape words place x wide there = record {
-  here = get_or-set_same words (offset_of shape place) x 0 (omega (arith, wide, within shape place there));
+  here = get_or-set_same words (offset_of shape place) x 0 (omega (arith, wide, (within shape place there).1));
   others = λ other also ne. get_or-set_other words (offset_of shape place) (offset_of shape other) x 0 (λ is. ne (apart_in_list shape other place also there is));
 }

@@ -1,21 +1,25 @@
 -- Each change of the words of a fabric is a step of the core that they show, or none. The core is any sound one.
 use Rattle.std.specs.Prelude.{ℕ, ◌+◌, ◌/◌, ◌%◌, ◌≡◌, ◌<◌}
-use Rattle.unit_model.specs.Holding.{items_of}
+use Rattle.port_message.specs.Words.{numbers_of}
+use Rattle.unit_model.specs.Core.{owner_of}
+use Rattle.unit_model.specs.Effects.{after_step}
+use Rattle.unit_model.specs.Holding.{IsInRun, items_of}
 use Rattle.unit_model.specs.Opening.{opened_core}
 use Rattle.unit_model.specs.Shapes.{IsValid}
 use Rattle.unit_model.specs.Soundness.{IsSound}
 use Rattle.unit_model.specs.declared.machine.Core.{Core}
+use Rattle.unit_model.specs.declared.machine.Owner.TheVariants.{Seat, Message}
 use Rattle.unit_model.specs.declared.machine.Step.{Step}
 use Rattle.unit_model.specs.declared.machine.Step.TheVariants.{Draw, Claim, Release, Open, GetItem, SetRun, SetPart, Arm, Push, Pop, Settle, GiveItem, Abandon}
 use Rattle.unit_model.specs.declared.runs.Run.{Run}
 use Rattle.unit_model.specs.declared.shape.Shape.{Shape}
 use Rattle.fabric_words.specs.Makes.{Makes}
-use Rattle.fabric_words.specs.Needs.{Needs}
+use Rattle.fabric_words.specs.Needs.{Needs, NeedsArm, NeedsSettle}
 use Rattle.fabric_words.specs.Opened.{IsOpened}
 use Rattle.fabric_words.specs.Places.{Sets, Stays, queues_of}
 use Rattle.fabric_words.specs.Shown.{Shows, IsStep}
 use Rattle.fabric_words.specs.declared.place.Place.{Place}
-use Rattle.fabric_words.specs.declared.place.Place.TheVariants.{Tail, Slot}
+use Rattle.fabric_words.specs.declared.place.Place.TheVariants.{Tail, Slot, RunWord}
 use Rattle.fabric_words.specs.declared.place.Side.{Side}
 
 -- ---- steps
@@ -65,6 +69,24 @@ GiveItemLaw = (seat queue item place : ℕ) → StepIsShown (GiveItem seat queue
 
 abbrev pub AbandonLaw : Type 0
 AbandonLaw = (seat stream : ℕ) → StepIsShown (Abandon seat stream)
+
+-- ---- who has the chunks of a message
+
+-- an arm gives the chunks of the run that the run word says from the seat to the message
+abbrev pub ArmGivesRun : Type 0
+ArmGivesRun = (word : Place → ℕ) (core : Core) → IsSound core → Shows word core
+    → (seat queue item stream : ℕ) → NeedsArm word core seat queue item stream
+    → (number : ℕ) → IsInRun (numbers_of (word (RunWord queue item))) number
+    → (owner_of core number ≡ Seat seat)
+    × (owner_of (after_step core (Arm seat queue item stream)) number ≡ Message queue item)
+
+-- and a settle from the message to the seat
+abbrev pub SettleGivesRun : Type 0
+SettleGivesRun = (word : Place → ℕ) (core : Core) → IsSound core → Shows word core
+    → (seat queue item stream : ℕ) → NeedsSettle word core seat queue item stream
+    → (number : ℕ) → IsInRun (numbers_of (word (RunWord queue item))) number
+    → (owner_of core number ≡ Message queue item)
+    × (owner_of (after_step core (Settle seat queue item stream)) number ≡ Seat seat)
 
 -- ---- no steps
 

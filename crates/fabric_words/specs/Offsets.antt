@@ -63,10 +63,10 @@ word_in shape words place = slice_index words (offset_of shape place)
 
 -- ---- laws
 
--- words that are there stand within the list
+-- words that are there stand within the list, and none before word 16
 abbrev pub WithinLaw : Type 0
 WithinLaw = (shape : Shape) (place : Place) → IsThere shape place
-    → offset_of shape place < width_of shape
+    → (16 ≤ offset_of shape place) × (offset_of shape place < width_of shape)
 
 -- no two stand in one place
 abbrev pub ApartLaw : Type 0

@@ -1,7 +1,7 @@
 //! Laws of the words of a fabric: each change of a word is a step of the machine, or none. Each function does nothing: its
 //! contract is the law. `specs/Makes.antt` says which word each step changes, and `specs/Needs.antt` what a seat needs for it.
 ghost use Rattle.fabric_words.specs.CoreOf.{ShownIsCoreOf};
-ghost use Rattle.fabric_words.specs.Laws.{AbandonLaw, ArmLaw, ClaimLaw, DrawLaw, GetItemLaw, GiveItemLaw, HelpLaw, OpenLaw, OpenedLaw, PopLaw, PushLaw, ReleaseLaw, SetPartLaw, SetRunLaw, SettleLaw, StayLaw};
+ghost use Rattle.fabric_words.specs.Laws.{AbandonLaw, ArmGivesRun, ArmLaw, ClaimLaw, DrawLaw, GetItemLaw, GiveItemLaw, HelpLaw, OpenLaw, OpenedLaw, PopLaw, PushLaw, ReleaseLaw, SetPartLaw, SetRunLaw, SettleGivesRun, SettleLaw, StayLaw};
 ghost use Rattle.fabric_words.specs.Offsets.{ApartLaw, MapLaw, SetWordLaw, SharedLaw, WithinLaw};
 ghost use Rattle.fabric_words.specs.OwnWords.{PosterIsShown, RingIsLeft, TakenIsShown};
 
@@ -72,6 +72,13 @@ pub fn an_abandon_is_a_step()
     ensures { AbandonLaw }
 {}
 
+/// An Arm gives the chunks of the item's run from the seat to the message, and a Settle from the message to the seat. No bit of
+/// the map changes at either.
+pub fn runs_change_hands()
+    ensures arm { ArmGivesRun }
+    ensures settle { SettleGivesRun }
+{}
+
 // ---- no steps
 
 /// Where no word changes, as after a load or an exchange that was lost, the same core is shown.
@@ -110,8 +117,9 @@ pub fn rings_are_left()
 
 // ---- the layout
 
-/// Words that are there stand within the list, no two in one place; so a word that is set changes no other. A head, a tail,
-/// the next stream and a number of open segments have 16 words for themselves each, and so have the map words of a segment.
+/// Words that are there stand within the list from word 16 on, no two in one place; so a word that is set changes no other. A
+/// head, a tail, the next stream and a number of open segments have 16 words for themselves each, and so have the map words of
+/// a segment.
 pub fn words_stand_apart()
     ensures within { WithinLaw }
     ensures apart { ApartLaw }

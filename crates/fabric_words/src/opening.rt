@@ -33,6 +33,7 @@ impl Layout {
     fn open_words(&self, words: &mut [u64])
         requires { words.old ≡ replicate (width_of self.now.shape) 0 }
         ensures opened { IsOpened self.now.shape (word_in self.now.shape words.new) }
+        ensures shows { Shows (word_in self.now.shape words.new) (opened_core self.now.shape) }
         ensures long { length words.new ≡ width_of self.now.shape }
     {
         self.free_chunks(words);

@@ -10,12 +10,12 @@ pub loop-number-preserved : goal.loop-number-preserved
 loop-number-preserved c =
     let s = c.args.self.now.shape in
     let now = c.loop-number.invariant in
-    (map_goes_on s (word_in s c.args.words.now) (word_in s c.loop-number.words) (word_in s c.set_word.new.words) c.loop-number.number (omega (arith, c.loop-number-test.true, c.segments.ensures.value)) now.0 c.set_word.ensures.sets, c.set_word.ensures.long ∙ now.1)
+    (map_goes_on s (word_in s c.args.words.now) (word_in s c.loop-number.words) (word_in s c.set_word.new.words) c.loop-number.number (omega (arith, c.loop-number-test.true, c.segments-number-end.ensures.value)) now.0 c.set_word.ensures.sets, c.set_word.ensures.long ∙ now.1)
 
 pub returns-clause-free : goal.returns-clause-free
 returns-clause-free c =
     let s = c.args.self.now.shape in
-    map_done s (word_in s c.args.words.now) (word_in s c.loop-number.words) c.loop-number.number (omega (arith, c.loop-number-test.false, c.segments.ensures.value)) c.loop-number.invariant.0
+    map_done s (word_in s c.args.words.now) (word_in s c.loop-number.words) c.loop-number.number (omega (arith, c.loop-number-test.false, c.segments-number-end.ensures.value)) c.loop-number.invariant.0
 
 pub returns-clause-others : goal.returns-clause-others
 returns-clause-others c = c.loop-number.invariant.0.others
