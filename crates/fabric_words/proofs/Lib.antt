@@ -1,4 +1,5 @@
 pub mod Blocks
+pub mod EachStep
 pub mod Filling
 pub mod Frames
 pub mod ItemSteps
@@ -8,4 +9,3 @@ pub mod OtherSteps
 pub mod OwnPremises
 pub mod RingSteps
 pub mod Standing
-pub mod Steps

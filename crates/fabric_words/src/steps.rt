@@ -1,5 +1,5 @@
 //! The change of words that each step makes, done to a list of words.
-ghost use Rattle.std.specs.Prelude.{◌≡◌, ◌<◌, ◌≤◌, ◌↔◌, ◌^◌, IsTrue, length};
+ghost use Rattle.std.specs.Prelude.{◌≡◌, ◌+◌, ◌*◌, ◌<◌, ◌≤◌, ◌↔◌, ◌^◌, IsTrue, length};
 ghost use Rattle.fabric_words.specs.Makes.{IsPlaced, Makes, PutsEntry};
 ghost use Rattle.fabric_words.specs.Needs.{Needs};
 ghost use Rattle.fabric_words.specs.Offsets.{width_of, word_in};

@@ -3,7 +3,7 @@ use Rattle.std.specs.Int.{bit_not, w64}
 use Rattle.std.specs.Prelude.{bit_and}
 use Rattle.chunk_map.proofs.Bits.{clears_bit}
 use Rattle.chunk_map.specs.Words.{SetsBit}
-use Rattle.fabric_words.proofs.Steps.{chunk_set}
+use Rattle.fabric_words.proofs.EachStep.{chunk_set}
 use Rattle.fabric_words.specs.Offsets.{word_in}
 use Rattle.fabric_words.specs.Places.{SetsChunk}
 use Rattle.fabric_words.specs.declared.place.Place.TheVariants.{Chunks}

@@ -1,4 +1,4 @@
-use Rattle.fabric_words.proofs.Steps.{made_step}
+use Rattle.fabric_words.proofs.EachStep.{made_step}
 use Rattle.fabric_words.specs.Offsets.{word_in}
 use Rattle.fabric_words.proofs.layout.Layout.make.Goals as goal
 

@@ -1,4 +1,4 @@
-use Rattle.fabric_words.proofs.Steps.{entry_put}
+use Rattle.fabric_words.proofs.EachStep.{entry_put}
 use Rattle.fabric_words.specs.Offsets.{word_in}
 use Rattle.fabric_words.proofs.layout.Layout.put_entry.Goals as goal
 
