@@ -1,0 +1,11 @@
+pub mod Blocks
+pub mod EachStep
+pub mod Filling
+pub mod Frames
+pub mod ItemSteps
+pub mod OneCore
+pub mod Opened
+pub mod OtherSteps
+pub mod OwnPremises
+pub mod RingSteps
+pub mod Standing
