@@ -1,5 +1,6 @@
--- What a turn tells: the events of its steps, newest first, and what was so at them. `n` is the ring's size, `log` is what the
--- seat had noted of the ring before, and `steps e v u` says that a step with the event e may take a view from v to u.
+-- What a turn tells: the events of its steps, newest first, and what was so at them. `n` is the ring's size, `log` is
+-- what the seat had noted of the ring before, and `steps e v u` says that a step with the event e may take a view from v
+-- to u.
 use Rattle.std.specs.Prelude.{ℕ, ◌+◌, ◌/◌, ◌%◌, ◌^◌, ◌≡◌, ◌≢◌, ◌≤◌, ◌<◌, ◌⊎◌, List, [], ◌∷◌}
 use Rattle.nncq_ring.specs.declared.view.RingEvent.{RingEvent}
 use Rattle.nncq_ring.specs.declared.view.RingEvent.TheVariants.{SawTail, SawHead, SawEntry, Pushed, Popped}
@@ -25,8 +26,8 @@ head_looks place entry = SawEntry place entry ∷ SawHead place ∷ []
 
 -- ---- a push
 
--- Done: the tail was below 2^62, its slot had the cycle before, and the exchange put the value last in the line. Then the tail
--- is past the place.
+-- Done: the tail was below 2^62, its slot had the cycle before, and the exchange put the value last in the line. Then
+-- the tail is past the place.
 pub record IsDone (n value : ℕ) (log : List RingEvent) (place : ℕ) (events : List RingEvent) : Type 0 where
   pub fresh : place < 2 ^ 62
   pub entry : ℕ
@@ -36,8 +37,9 @@ pub record IsDone (n value : ℕ) (log : List RingEvent) (place : ℕ) (events :
   pub past : place < tail
   pub told : events ≡ SawTail tail ∷ Pushed place value ∷ tail_looks place entry
 
--- Lost: the place was the tail, and after that look the entry was that of its slot. The slot was filled already, and then the tail is past the place; or the slot has a later
--- cycle, which shows that the head is past the place; or the exchange found another entry, of the place's cycle or a later one.
+-- Lost: the place was the tail, and after that look the entry was that of its slot. The slot was filled already, and
+-- then the tail is past the place; or the slot has a later cycle, which shows that the head is past the place; or the
+-- exchange found another entry, of the place's cycle or a later one.
 pub record IsPushLost (n : ℕ) (log : List RingEvent) (place entry : ℕ) (events : List RingEvent) : Type 0 where
   pub fresh : place < 2 ^ 62
   pub was : WasTail n place log
@@ -69,8 +71,8 @@ pub record IsEmpty (n : ℕ) (log : List RingEvent) (place entry : ℕ) (events 
   pub was : WasEmpty n place (SawHead place ∷ log)
   pub told : events ≡ head_looks place entry
 
--- Lost: the place was the head, and after that look the entry was that of its slot. The slot has a later cycle, which shows that the head is past the place; or the exchange found
--- a later head.
+-- Lost: the place was the head, and after that look the entry was that of its slot. The slot has a later cycle, which
+-- shows that the head is past the place; or the exchange found a later head.
 pub record IsPopLost (n : ℕ) (log : List RingEvent) (place entry : ℕ) (events : List RingEvent) : Type 0 where
   pub was : WasHead n place log
   pub seen : WasEntry n place entry (SawHead place ∷ log)
