@@ -133,12 +133,9 @@ impl Link for MemLink {
 
 #[cfg(test)]
 mod tests {
-    ghost use Rattle.unit_io.specs.MemLink.{IsFreshEvent};
-
     use super::*;
     use crate::conn::Conn;
     use std::alloc::AllocGlobal;
-    use std::process::Abort;
     use unit_types::{Addr, Bytes};
 
     const ADDR: Addr = Addr {
@@ -146,13 +143,15 @@ mod tests {
         port: 40000,
     };
 
-    fn connection(rt: &(impl Abort + AllocGlobal)) -> LinkEvent
-        ensures { IsFreshEvent result }
+    fn connection(rt: &impl AllocGlobal) -> MemConn
+        ensures came { result.came ≡ [] }
+        ensures went { result.went ≡ [] }
+        ensures faults { result.faults ≡ 0 }
     {
         let alloc = rt.alloc();
         let listener = Bytes::of(Vec::new(alloc));
         let script = Vec::new(alloc);
-        LinkEvent::Conn(MemConn::open(alloc, script, Vec::new(alloc), listener, ADDR, ADDR))
+        MemConn::open(alloc, script, Vec::new(alloc), listener, ADDR, ADDR)
     }
 
     // The number of the connection that came, where one did.
@@ -166,10 +165,14 @@ mod tests {
     #[test]
     fn meets_each_event_and_then_the_end(rt: HostRuntime) {
         let mut script = Vec::new(rt.alloc());
-        script.push(connection(&rt)).expect(&rt, "pushed");
+        script
+            .push(LinkEvent::Conn(connection(&rt)))
+            .expect(&rt, "pushed");
         script.push(LinkEvent::NotYet).expect(&rt, "pushed");
         script.push(LinkEvent::Fail).expect(&rt, "pushed");
-        script.push(connection(&rt)).expect(&rt, "pushed");
+        script
+            .push(LinkEvent::Conn(connection(&rt)))
+            .expect(&rt, "pushed");
         let mut link = MemLink::open(script);
         assert_eq!(rt; number_of(link.accept()), Some(0));
         assert!(rt; matches!(link.accept(), Accepted::NotYet));
