@@ -1,5 +1,5 @@
 -- Steps as one law, and what code that makes them sets.
-use Rattle.std.proofs.Common.{ℕ, ◌+◌, ◌-◌, ◌*◌, ◌/◌, ◌%◌, ◌≡◌, ◌<◌, refl, sym, ap, ◌∙◌, subst, arith, div-add-mod'}
+use Rattle.std.proofs.Common.{ℕ, ◌+◌, ◌-◌, ◌/◌, ◌%◌, ◌≡◌, ◌<◌, refl, sym, ap, ◌∙◌, subst, arith, div-add-mod'}
 use Rattle.chunk_map.specs.Words.{SetsBit}
 use Rattle.nncq_ring.specs.Words.{entry_of}
 use Rattle.unit_model.specs.Holding.{items_of}

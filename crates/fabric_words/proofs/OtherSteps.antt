@@ -1,5 +1,5 @@
 -- Steps that change no word of a queue, and changes that are no steps.
-use Rattle.std.proofs.Common.{ℕ, ◌+◌, ◌-◌, ◌*◌, ◌/◌, ◌%◌, ◌≡◌, ◌≢◌, ◌≤◌, ◌<◌, ◌==◌, inl, inr, Bool, true, false, if◌then◌else◌, List, length, get_or, set, refl, sym, ap, ◌∙◌, subst, arith, get_or-set_same, get_or-set_other}
+use Rattle.std.proofs.Common.{ℕ, ◌+◌, ◌-◌, ◌*◌, ◌/◌, ◌%◌, ◌≡◌, ◌≢◌, ◌<◌, ◌==◌, inl, inr, Bool, true, false, if◌then◌else◌, List, length, get_or, set, refl, sym, ap, ◌∙◌, subst, arith, get_or-set_same, get_or-set_other}
 use Rattle.std.proofs.lemmas.Bool.{cases_eq, cases_Bool, eq-eqb, eqb-true}
 use Rattle.std.specs.Int.{bit_at}
 use Rattle.std.proofs.lemmas.Nat.Bits.{bit_at-lt}
@@ -12,7 +12,6 @@ use Rattle.unit_model.specs.Core.{queue_of, item_of, role_of, owner_of, owner_co
 use Rattle.unit_model.specs.Effects.{after_step, with_note, with_owner, with_opened, noted}
 use Rattle.unit_model.specs.Lists.{change_at}
 use Rattle.unit_model.specs.Running.{Enabled}
-use Rattle.unit_model.specs.Shapes.{role_in}
 use Rattle.unit_model.specs.declared.machine.Core.{Core}
 use Rattle.unit_model.specs.declared.machine.Note.TheVariants.{Drawn, Abandoned}
 use Rattle.unit_model.specs.declared.machine.Owner.{Owner}

@@ -1,5 +1,5 @@
 -- Premises from words, and rings that stay.
-use Rattle.std.proofs.Common.{ℕ, ◌≡◌, ◌≢◌, ◌≤◌, ◌<◌, inl, inr, true, length, refl, sym, ap, ◌∙◌, subst, arith}
+use Rattle.std.proofs.Common.{ℕ, ◌≡◌, ◌≢◌, ◌≤◌, inl, inr, true, length, refl, sym, ap, ◌∙◌, subst, arith}
 use Rattle.std.proofs.lemmas.Bool.{cases_lt}
 use Rattle.std.proofs.lemmas.List.{get_or_past}
 use Rattle.nncq_ring.proofs.Staying.{ring_stays as whole_ring_stays}
@@ -18,7 +18,7 @@ use Rattle.fabric_words.specs.OwnWords.{PosterIsShown, RingIsLeft, TakenIsShown}
 use Rattle.fabric_words.specs.Places.{HasItem, ring_of}
 use Rattle.fabric_words.specs.Shown.{Shows}
 use Rattle.fabric_words.specs.declared.place.Place.{Place}
-use Rattle.fabric_words.specs.declared.place.Place.TheVariants.{Tag, PartWord}
+use Rattle.fabric_words.specs.declared.place.Place.TheVariants.{Tag}
 
 -- a posted stream isn't 0
 posted_is_some : (core : Core) → IsSound core → (seat stream : ℕ) → has_stream stream (seat_of core seat).posted ≡ true → stream ≢ 0

@@ -1,14 +1,13 @@
 -- The offsets of words in numbers, and that no two are the same.
-use Rattle.std.proofs.Common.{ℕ, zero, suc, ◌+◌, ◌-◌, ◌*◌, ◌/◌, ◌≡◌, ◌≢◌, ◌≤◌, ◌<◌, ◌==◌, if◌then◌else◌, List, length, refl, sym, ap, ◌∙◌, arith, suc-mul, get_or-set_same, get_or-set_other}
+use Rattle.std.proofs.Common.{ℕ, zero, suc, ◌+◌, ◌-◌, ◌*◌, ◌/◌, ◌≡◌, ◌<◌, refl, sym, ap, ◌∙◌, arith, suc-mul, get_or-set_same, get_or-set_other}
 use Rattle.std.proofs.lemmas.Bool.{ne_eqb}
 use Rattle.unit_model.specs.Holding.{items_of}
 use Rattle.unit_model.specs.Weights.{below}
 use Rattle.unit_model.specs.declared.shape.Shape.{Shape}
-use Rattle.fabric_words.specs.Offsets.{rounded, ring_width, queue_width, queue_start, ring_start, item_start, offset_of, width_of, WithinLaw, ApartLaw, SharedLaw, MapLaw, SetWordLaw}
+use Rattle.fabric_words.specs.Offsets.{queue_width, queue_start, offset_of, WithinLaw, ApartLaw, SharedLaw, MapLaw, SetWordLaw}
 use Rattle.fabric_words.specs.Places.{queues_of, segments_of}
 use Rattle.fabric_words.specs.declared.place.Place.{Place}
 use Rattle.fabric_words.specs.declared.place.Place.TheVariants.{NextStream, OpenedOut, OpenedBack, Head, Tail, Slot, Tag, RunWord, PartWord, Chunks}
-use Rattle.fabric_words.specs.declared.place.Side.{Side}
 use Rattle.fabric_words.specs.declared.place.Side.TheVariants.{FreeSide, LineSide}
 use Rattle.fabric_words.proofs.Blocks.{groups_for, queue_block, kind_groups, groups_of, groups_in_queue, stand_of, stands_once, stands_within, shared_alone, segment_alone}
 

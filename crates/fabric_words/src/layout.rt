@@ -204,7 +204,8 @@ impl Layout {
     /// Sets a word of a list.
     pub fn set_word(&self, words: &mut [u64], place: Place, value: u64)
         requires { (IsThere self.now.shape place) × (width_of self.now.shape ≤ length words.old) }
-        ensures sets { Sets self.now.shape (word_in self.now.shape words.old) (word_in self.now.shape words.new) place value }
+        ensures sets { Sets self.now.shape (word_in self.now.shape words.old)
+            (word_in self.now.shape words.new) place value }
         ensures long { length words.new ≡ length words.old }
     {
         words[self.offset(place)] = value;

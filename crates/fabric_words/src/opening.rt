@@ -21,8 +21,10 @@ impl Layout {
     /// Fails for want of memory alone.
     pub fn opened_words(&self, alloc: Global) -> Result<Vec<u64>, AllocError>
         ensures long { IfOk result (λ words. length words.items ≡ width_of self.now.shape) }
-        ensures opened { IfOk result (λ words. IsOpened self.now.shape (word_in self.now.shape words.items)) }
-        ensures shows { IfOk result (λ words. Shows (word_in self.now.shape words.items) (opened_core self.now.shape)) }
+        ensures opened { IfOk result
+            (λ words. IsOpened self.now.shape (word_in self.now.shape words.items)) }
+        ensures shows { IfOk result
+            (λ words. Shows (word_in self.now.shape words.items) (opened_core self.now.shape)) }
     {
         let mut words = vec![in alloc; 0u64; self.width()]?;
         self.open_words(words.as_mut_slice());
@@ -47,7 +49,8 @@ impl Layout {
         requires { width_of self.now.shape ≤ length words.old }
         ensures free { (number : ℕ) → number < 640 * segments_of self.now.shape
             → is_free (map_of (word_in self.now.shape words.new)) number ≡ true }
-        ensures others { ChangesMap self.now.shape (word_in self.now.shape words.old) (word_in self.now.shape words.new) }
+        ensures others { ChangesMap self.now.shape (word_in self.now.shape words.old)
+            (word_in self.now.shape words.new) }
         ensures long { length words.new ≡ length words.old }
     {
         for number in 0..MAP_WORDS * self.segments() {
@@ -59,7 +62,8 @@ impl Layout {
         requires { width_of self.now.shape ≤ length words.old }
         ensures begun { (queue : ℕ) → queue < queues_of self.now.shape
             → HasBegun self.now.shape (word_in self.now.shape words.new) queue }
-        ensures others { ChangesRings self.now.shape (word_in self.now.shape words.old) (word_in self.now.shape words.new) }
+        ensures others { ChangesRings self.now.shape (word_in self.now.shape words.old)
+            (word_in self.now.shape words.new) }
         ensures long { length words.new ≡ length words.old }
     {
         for queue in 0..1 + self.shape.engines {
@@ -70,9 +74,12 @@ impl Layout {
 
     // A free ring starts with all items, in ascending order.
     fn open_free(&self, words: &mut [u64], queue: u32)
-        requires { (queue < queues_of self.now.shape) × (width_of self.now.shape ≤ length words.old) }
-        ensures starts { StartsFull (items_of self.now.shape queue) self.now.shape.start (ring_of (word_in self.now.shape words.new) queue FreeSide) }
-        ensures others { ChangesRing self.now.shape (word_in self.now.shape words.old) (word_in self.now.shape words.new) queue FreeSide }
+        requires { (queue < queues_of self.now.shape)
+            × (width_of self.now.shape ≤ length words.old) }
+        ensures starts { StartsFull (items_of self.now.shape queue) self.now.shape.start
+            (ring_of (word_in self.now.shape words.new) queue FreeSide) }
+        ensures others { ChangesRing self.now.shape (word_in self.now.shape words.old)
+            (word_in self.now.shape words.new) queue FreeSide }
         ensures long { length words.new ≡ length words.old }
     {
         let side = Side::FreeSide;
@@ -88,9 +95,12 @@ impl Layout {
 
     // A line starts empty.
     fn open_line(&self, words: &mut [u64], queue: u32)
-        requires { (queue < queues_of self.now.shape) × (width_of self.now.shape ≤ length words.old) }
-        ensures starts { StartsEmpty (items_of self.now.shape queue) self.now.shape.start (ring_of (word_in self.now.shape words.new) queue LineSide) }
-        ensures others { ChangesRing self.now.shape (word_in self.now.shape words.old) (word_in self.now.shape words.new) queue LineSide }
+        requires { (queue < queues_of self.now.shape)
+            × (width_of self.now.shape ≤ length words.old) }
+        ensures starts { StartsEmpty (items_of self.now.shape queue) self.now.shape.start
+            (ring_of (word_in self.now.shape words.new) queue LineSide) }
+        ensures others { ChangesRing self.now.shape (word_in self.now.shape words.old)
+            (word_in self.now.shape words.new) queue LineSide }
         ensures long { length words.new ≡ length words.old }
     {
         let side = Side::LineSide;

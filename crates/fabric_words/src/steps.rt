@@ -55,8 +55,10 @@ impl Layout {
     /// Changes the word that a step changes, as the step does. Whether the step is enabled isn't looked at: where the words show
     /// a sound core and the seat has what the step needs, it is that step.
     pub fn make(&self, words: &mut [u64], step: &Step)
-        requires { (IsPlaced self.now.shape step.now) × (width_of self.now.shape ≤ length words.old) }
-        ensures made { Makes self.now.shape (word_in self.now.shape words.old) (word_in self.now.shape words.new) step.now }
+        requires { (IsPlaced self.now.shape step.now)
+            × (width_of self.now.shape ≤ length words.old) }
+        ensures made { Makes self.now.shape (word_in self.now.shape words.old)
+            (word_in self.now.shape words.new) step.now }
         ensures step { (core : Core) → core.shape ≡ self.now.shape → IsSound core
             → Shows (word_in self.now.shape words.old) core
             → Needs (word_in self.now.shape words.old) core step.now
@@ -67,8 +69,10 @@ impl Layout {
     }
 
     fn change(&self, words: &mut [u64], step: &Step)
-        requires { (IsPlaced self.now.shape step.now) × (width_of self.now.shape ≤ length words.old) }
-        ensures made { Makes self.now.shape (word_in self.now.shape words.old) (word_in self.now.shape words.new) step.now }
+        requires { (IsPlaced self.now.shape step.now)
+            × (width_of self.now.shape ≤ length words.old) }
+        ensures made { Makes self.now.shape (word_in self.now.shape words.old)
+            (word_in self.now.shape words.new) step.now }
         ensures long { length words.new ≡ length words.old }
     {
         match *step {
@@ -119,7 +123,8 @@ impl Layout {
 
     /// Moves the tail of a ring on, where the entry at it has its cycle. The words show what they did.
     pub fn help(&self, words: &mut [u64], queue: u32, side: Side)
-        requires { (queue < queues_of self.now.shape) × (width_of self.now.shape ≤ length words.old) }
+        requires { (queue < queues_of self.now.shape)
+            × (width_of self.now.shape ≤ length words.old) }
         ensures shows { (core : Core) → core.shape ≡ self.now.shape
             → Shows (word_in self.now.shape words.old) core
             → Shows (word_in self.now.shape words.new) core }
@@ -146,16 +151,20 @@ impl Layout {
     }
 
     fn set_tag(&self, words: &mut [u64], queue: u32, item: u32, stream: u64)
-        requires { (HasItem self.now.shape queue item) × (width_of self.now.shape ≤ length words.old) }
-        ensures sets { Sets self.now.shape (word_in self.now.shape words.old) (word_in self.now.shape words.new) (Tag queue item) stream }
+        requires { (HasItem self.now.shape queue item)
+            × (width_of self.now.shape ≤ length words.old) }
+        ensures sets { Sets self.now.shape (word_in self.now.shape words.old)
+            (word_in self.now.shape words.new) (Tag queue item) stream }
         ensures long { length words.new ≡ length words.old }
     {
         self.set_word(words, Place::Tag { queue, item }, stream);
     }
 
     fn move_head(&self, words: &mut [u64], queue: u32, side: Side, place: u64)
-        requires { (queue < queues_of self.now.shape) × (place < 2 ^ 63) × (width_of self.now.shape ≤ length words.old) }
-        ensures sets { Sets self.now.shape (word_in self.now.shape words.old) (word_in self.now.shape words.new) (Head queue side) (place + 1) }
+        requires { (queue < queues_of self.now.shape) × (place < 2 ^ 63)
+            × (width_of self.now.shape ≤ length words.old) }
+        ensures sets { Sets self.now.shape (word_in self.now.shape words.old)
+            (word_in self.now.shape words.new) (Head queue side) (place + 1) }
         ensures long { length words.new ≡ length words.old }
     {
         self.set_word(words, Place::Head { queue, side }, place + 1);
@@ -163,8 +172,10 @@ impl Layout {
 
     // The entry of an item at a place has the place's cycle and the item as its value.
     fn put_entry(&self, words: &mut [u64], queue: u32, side: Side, place: u64, item: u32)
-        requires { (HasItem self.now.shape queue item) × (place < 2 ^ 63) × (width_of self.now.shape ≤ length words.old) }
-        ensures puts { PutsEntry self.now.shape (word_in self.now.shape words.old) (word_in self.now.shape words.new) queue side place item }
+        requires { (HasItem self.now.shape queue item) × (place < 2 ^ 63)
+            × (width_of self.now.shape ≤ length words.old) }
+        ensures puts { PutsEntry self.now.shape (word_in self.now.shape words.old)
+            (word_in self.now.shape words.new) queue side place item }
         ensures long { length words.new ≡ length words.old }
     {
         let size = self.items(queue) as u64;
@@ -174,8 +185,10 @@ impl Layout {
     }
 
     fn clear_bit(&self, words: &mut [u64], segment: u32, chunk: u32)
-        requires { (chunk_number segment chunk < segment_chunks * segments_of self.now.shape) × (width_of self.now.shape ≤ length words.old) }
-        ensures sets { SetsChunk self.now.shape (word_in self.now.shape words.old) (word_in self.now.shape words.new) (chunk_number segment chunk) 0 }
+        requires { (chunk_number segment chunk < segment_chunks * segments_of self.now.shape)
+            × (width_of self.now.shape ≤ length words.old) }
+        ensures sets { SetsChunk self.now.shape (word_in self.now.shape words.old)
+            (word_in self.now.shape words.new) (chunk_number segment chunk) 0 }
         ensures long { length words.new ≡ length words.old }
     {
         let number = chunk_number(segment, chunk);
@@ -187,8 +200,10 @@ impl Layout {
     }
 
     fn set_bit(&self, words: &mut [u64], segment: u32, chunk: u32)
-        requires { (chunk_number segment chunk < segment_chunks * segments_of self.now.shape) × (width_of self.now.shape ≤ length words.old) }
-        ensures sets { SetsChunk self.now.shape (word_in self.now.shape words.old) (word_in self.now.shape words.new) (chunk_number segment chunk) 1 }
+        requires { (chunk_number segment chunk < segment_chunks * segments_of self.now.shape)
+            × (width_of self.now.shape ≤ length words.old) }
+        ensures sets { SetsChunk self.now.shape (word_in self.now.shape words.old)
+            (word_in self.now.shape words.new) (chunk_number segment chunk) 1 }
         ensures long { length words.new ≡ length words.old }
     {
         let number = chunk_number(segment, chunk);

@@ -306,8 +306,9 @@ fn opened_words_show_opened_cores(rt: HostRuntime) {
 
 #[test]
 fn words_stand_where_they_did(rt: HostRuntime) {
-    assert!(rt; plain().valid());
-    let layout = Layout::of(plain());
+    let shape = plain();
+    assert!(rt; shape.valid());
+    let layout = Layout::of(shape);
     assert_eq!(rt; layout.width(), 352);
     for (place, offset) in [
         (Place::OpenedBack, 48),

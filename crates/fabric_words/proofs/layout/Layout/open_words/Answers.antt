@@ -1,4 +1,4 @@
-use Rattle.std.proofs.Common.{ℕ, ◌≡◌, ◌∙◌, List, ap, slice_index}
+use Rattle.std.proofs.Common.{ℕ, ◌∙◌, List, ap, slice_index}
 use Rattle.fabric_words.proofs.Filling.{all_opened, zeros}
 use Rattle.fabric_words.proofs.Opened.{opened_shows}
 use Rattle.fabric_words.specs.Offsets.{offset_of, word_in}

@@ -1,4 +1,4 @@
-use Rattle.std.proofs.Common.{ℕ, ◌*◌, ◌/◌, ◌%◌, ◌^◌, ◌≡◌, ◌∙◌, ap, subst, sym, arith}
+use Rattle.std.proofs.Common.{ℕ, ◌*◌, ◌/◌, ◌%◌, ◌^◌, subst, arith}
 use Rattle.std.specs.Prelude.{bit_or}
 use Rattle.chunk_map.proofs.Bits.{sets_bit}
 use Rattle.chunk_map.specs.Words.{SetsBit}
