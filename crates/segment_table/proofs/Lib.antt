@@ -1,0 +1,4 @@
+pub mod SeatFacts
+pub mod Stepping
+pub mod RunSlots
+pub mod Filling

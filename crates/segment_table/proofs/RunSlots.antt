@@ -1,0 +1,77 @@
+-- The slots of a seat after a search, and after a run was given back.
+use Rattle.std.proofs.Common.{ℕ, ◌≡◌, ◌+◌, ◌<◌, ◌≤◌, ◌⊎◌, ⊎_elim, List, [], ◌∷◌, refl, sym, ap, ◌∙◌, arith}
+use Rattle.std.specs.List.{range_with_len}
+use Rattle.std.specs.Prelude.{Option, Some, None}
+use Rattle.atomic_table.specs.Table.{Me}
+use Rattle.carried_slots.specs.Carried.{content, numbers, IsDistinct}
+use Rattle.carried_slots.specs.EmptySlots.{empty_weight, full_slots}
+use Rattle.carried_slots.specs.RunSlots.{HasEmpty, HasNone, SameElsewhere}
+use Rattle.carried_slots.proofs.EmptySlots.{full_stay, same_known, empty_known, known_empty, parts_weigh}
+use Rattle.carried_slots.proofs.Lookups.{none_content}
+use Rattle.carried_slots.proofs.RunLists.{in_range, out_of_range}
+use Rattle.unit_model.specs.Weights.{weigh, is_number, times}
+use Rattle.chunk_map.specs.Gains.{Steps, given_back, with_events}
+use Rattle.chunk_map.specs.declared.view.MapEvent.{MapEvent}
+use Rattle.chunk_map.specs.declared.view.MapEvent.TheVariants.{SawOpen, SawWord, Gained, Missed, Released, OpenedTo, FoundOpen}
+use Rattle.chunk_map.specs.declared.view.MapView.{MapView}
+use Rattle.chunk_map.proofs.GainLaws.{back_weigh, steps_back}
+use Rattle.segment_table.specs.Events.{did, frees_one, slots_after}
+
+module _ {T : Type 0} where
+  -- no event touches a slot with a value
+  event_full : (e : MapEvent) (c : List (ℕ × Option T)) → full_slots (slots_after e c) ≡ full_slots c
+  event_full (SawOpen count) c = refl
+  event_full (SawWord number found) c = refl
+  event_full (Gained chunk) c = refl
+  event_full (Missed chunk) c = refl
+  event_full (Released chunk) c = full_stay chunk c
+  event_full (OpenedTo count) c = refl
+  event_full (FoundOpen count) c = refl
+
+  events_full : (es : List MapEvent) (me : Me (Option T) MapView) → full_slots (with_events did es me).1 ≡ full_slots me.1
+  events_full [] me = refl
+  events_full (e ∷ es) me = event_full e (with_events did es me).1 ∙ events_full es me
+
+  pub steps_full : (me me' : Me (Option T) MapView) → Steps did me me' → full_slots me'.1 ≡ full_slots me.1
+  steps_full me me' steps = ap (λ (m : Me (Option T) MapView). full_slots m.1) steps.1 ∙ events_full steps.0 me
+
+  -- a run was gained
+  pub run_claimed : (first n : ℕ) (c c' : List (ℕ × Option T)) → IsDistinct c → IsDistinct c' → full_slots c' ≡ full_slots c
+      → ((f : ℕ → ℕ) → empty_weight f c' ≡ weigh f (range_with_len first n) + empty_weight f c) → HasEmpty first n c' × SameElsewhere first n c c'
+  run_claimed first n c c' once once' full gained = (
+    λ i lt. empty_known (first + i) c' once' (omega (arith, gained (is_number (first + i)), in_range first n i lt)),
+    λ k out. same_known k c c' once once' full (omega (arith, gained (is_number k), out_of_range first n k out)),
+  )
+
+  -- nothing was gained
+  pub nothing_claimed : (c c' : List (ℕ × Option T)) → IsDistinct c → IsDistinct c' → full_slots c' ≡ full_slots c
+      → ((f : ℕ → ℕ) → empty_weight f c' ≡ empty_weight f c) → (k : ℕ) → content c' k ≡ content c k
+  nothing_claimed c c' once once' full same k = same_known k c c' once once' full (same (is_number k))
+
+  -- a run was given back
+  pub run_released : (first n : ℕ) (c c' : List (ℕ × Option T)) → IsDistinct c → IsDistinct c' → full_slots c' ≡ full_slots c
+      → ((f : ℕ → ℕ) → weigh f (range_with_len first n) + empty_weight f c' ≡ empty_weight f c) → HasNone first n c' × SameElsewhere first n c c'
+  run_released first n c c' once once' full given = (
+    λ i lt. none_content c' (first + i) (omega (
+      arith,
+      parts_weigh (is_number (first + i)) c,
+      parts_weigh (is_number (first + i)) c',
+      ap (λ l. times (first + i) (numbers l)) full,
+      given (is_number (first + i)),
+      in_range first n i lt,
+      once (first + i),
+    )),
+    λ k out. same_known k c c' once once' full (omega (arith, given (is_number k), out_of_range first n k out)),
+  )
+
+  pub given_back_run : (first n : ℕ) (me me' : Me (Option T) MapView) → IsDistinct me.1 → IsDistinct me'.1 → me' ≡ given_back did first n me
+      → HasEmpty first n me.1 → HasNone first n me'.1 × SameElsewhere first n me.1 me'.1
+  given_back_run first n me me' once once' is empty =
+      let V : Type 0 = Me (Option T) MapView in
+      let steps : Steps did me (given_back did first n me) = steps_back V did first n me in
+      let full : full_slots me'.1 ≡ full_slots me.1 = ap (λ (m : V). full_slots m.1) is ∙ steps_full me (given_back did first n me) steps in
+      let weighs : (ℕ → ℕ) → V → ℕ = λ f m. empty_weight f m.1 in
+      let given : (f : ℕ → ℕ) → weigh f (range_with_len first n) + empty_weight f me'.1 ≡ empty_weight f me.1 = λ f.
+      ap (λ (m : V). weigh f (range_with_len first n) + empty_weight f m.1) is
+      ∙ back_weigh V did weighs (λ h chunk m. refl) (λ h chunk m mine. frees_one h chunk m.1 mine) first n me f (λ i lt. known_empty (first + i) me.1 (empty i lt)) in
+      run_released first n me.1 me'.1 once once' full given
