@@ -1,14 +1,14 @@
 -- Carried slots without those of a run, and with them.
-use Rattle.std.proofs.Common.{ℕ, zero, suc, ◌≡◌, ◌≢◌, ◌+◌, ◌<◌, ◌≤◌, ◌⊎◌, ◌++◌, inl, inr, ⊎_elim, List, [], ◌∷◌, length, refl, sym, ap, ◌∙◌, subst, arith}
+use Rattle.std.proofs.Common.{ℕ, zero, suc, ◌≡◌, ◌≢◌, ◌+◌, ◌<◌, ◌≤◌, ◌⊎◌, ◌++◌, inl, inr, ⊎_elim, List, [], ◌∷◌, length, refl, ap, ◌∙◌, arith}
 use Rattle.std.specs.List.{range_with_len}
-use Rattle.std.specs.Prelude.{Option, Some, None, slice_get}
+use Rattle.std.specs.Prelude.{slice_get}
 use Rattle.std.proofs.lemmas.Bool.{cases_eq}
 use Rattle.unit_model.specs.Weights.{weigh, is_number, times}
 use Rattle.unit_model.proofs.Weights.{is_number_same, is_number_other}
-use Rattle.carried_slots.specs.Carried.{content, numbers, but, IsDistinct, Among}
+use Rattle.carried_slots.specs.Carried.{content, numbers, but, Among}
 use Rattle.carried_slots.specs.RunSlots.{run_gone, run_of}
 use Rattle.carried_slots.specs.SlotLaws.{RunGone, RunTaken}
-use Rattle.carried_slots.proofs.Lookups.{content_here, content_there, none_content, but_weighs, but_other, but_gone, among_itself, among_but}
+use Rattle.carried_slots.proofs.Lookups.{content_here, content_there, none_content, but_weighs, but_other, among_itself, among_but}
 
 -- ---- numbers
 

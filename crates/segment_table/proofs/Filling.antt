@@ -1,11 +1,11 @@
 -- A run that is being filled, and one that is being read.
-use Rattle.std.proofs.Common.{ℕ, zero, suc, ◌≡◌, ◌≢◌, ◌+◌, ◌<◌, ◌≤◌, ◌⊎◌, inl, inr, ⊎_elim, List, [], ◌∷◌, ◌++◌, length, length-append, refl, sym, ap, ◌∙◌, subst, arith}
+use Rattle.std.proofs.Common.{ℕ, zero, suc, ◌≡◌, ◌≢◌, ◌+◌, ◌<◌, ◌≤◌, ◌⊎◌, ⊎_elim, List, [], ◌∷◌, ◌++◌, length, length-append, refl, sym, ap, ◌∙◌, subst, arith}
 use Rattle.std.specs.Prelude.{Option, Some, None, slice_get}
 use Rattle.std.proofs.lemmas.Bool.{cases_eq}
 use Rattle.std.proofs.lemmas.List.{append-nil, append_assoc}
 use Rattle.carried_slots.specs.Carried.{content, but}
 use Rattle.carried_slots.specs.RunSlots.{HasEmpty, HasFull, HasValues, SameElsewhere}
-use Rattle.carried_slots.proofs.Lookups.{some_same, content_here, content_there, but_other}
+use Rattle.carried_slots.proofs.Lookups.{content_here, content_there, but_other}
 use Rattle.carried_slots.proofs.RunLists.{beyond}
 
 module _ {T : Type 0} where

@@ -1,16 +1,17 @@
 -- What stays true of a seat.
-use Rattle.std.proofs.Common.{ℕ, ◌≡◌, ◌≢◌, ◌+◌, ◌*◌, ◌<◌, ◌≤◌, ⊎_elim, List, [], ◌∷◌, length, refl, sym, ap, ◌∙◌, subst, arith}
+use Rattle.std.proofs.Common.{ℕ, ◌≡◌, ◌+◌, ◌*◌, ◌<◌, ⊎_elim, List, [], ◌∷◌, refl, sym, ap, ◌∙◌, subst, arith}
 use Rattle.std.specs.Prelude.{Option, Some, None}
 use Rattle.std.proofs.lemmas.Bool.{cases_eq}
+use Rattle.std.proofs.lemmas.Option.{none-some}
 use Rattle.atomic_table.specs.Table.{Me, rest}
-use Rattle.carried_slots.specs.Carried.{content, numbers, but, front}
+use Rattle.carried_slots.specs.Carried.{content, numbers}
 use Rattle.carried_slots.specs.EmptySlots.{without_empty}
 use Rattle.carried_slots.proofs.EmptySlots.{empty_is_but}
-use Rattle.carried_slots.proofs.Lookups.{some_content, but_weighs, front_weighs}
+use Rattle.carried_slots.proofs.Lookups.{content_here, some_content, but_weighs}
 use Rattle.unit_model.specs.Sharing.{Holds}
 use Rattle.unit_model.specs.Weights.{weigh, is_number, times}
 use Rattle.unit_model.proofs.Weights.{is_number_same, is_number_other}
-use Rattle.chunk_map.specs.Views.{held_by, open_noted, frees_one, does}
+use Rattle.chunk_map.specs.Views.{held_by, open_noted, frees_one}
 use Rattle.chunk_map.specs.declared.view.MapEvent.TheVariants.{SawOpen, SawWord, Gained, Missed, Released}
 use Rattle.chunk_map.specs.declared.view.MapView.{MapView}
 use Rattle.segment_table.specs.Events.{did}
@@ -69,3 +70,8 @@ module _ {T : Type 0} (me : Me (Option T) MapView) (seat : IsSeat me) where
   after_exchange me' chunk old new front_is is =
       same_numbers me' (ap (λ (m : Me (Option T) MapView). m.0) is)
       (λ f. ap (λ (m : Me (Option T) MapView). weigh f (numbers m.1)) is ∙ sym (ap (λ (l : List (ℕ × Option T)). weigh f (numbers l)) front_is))
+
+-- where no slot has anything, none is carried
+pub nothing_carried : {S : Type 0} (c : List (ℕ × S)) → ((k : ℕ) → content c k ≡ None) → c ≡ []
+nothing_carried [] none_there = refl
+nothing_carried (x ∷ xs) none_there = absurd (none-some x.1 (sym (none_there x.0) ∙ content_here x xs x.0 refl))

@@ -1,5 +1,5 @@
 -- Each step on the table keeps its rule.
-use Rattle.std.proofs.Common.{ℕ, ◌≡◌, ◌≢◌, ◌+◌, ◌*◌, ◌/◌, ◌%◌, ◌^◌, ◌<◌, ◌≤◌, ◌==◌, inl, inr, ⊎_elim, zero, suc, true, true≢false, List, [], ◌∷◌, ◌++◌, map, length, slice_index, set, replicate, refl, sym, ap, ◌∙◌, subst, arith, get_or-set_same, get_or-set_other, length-set}
+use Rattle.std.proofs.Common.{ℕ, ◌≡◌, ◌≢◌, ◌+◌, ◌*◌, ◌/◌, ◌%◌, ◌^◌, ◌<◌, ◌≤◌, ◌==◌, inl, inr, ⊎_elim, zero, suc, true, true≢false, List, [], ◌∷◌, map, length, slice_index, set, replicate, refl, sym, ap, ◌∙◌, subst, arith, get_or-set_same, get_or-set_other, length-set}
 use Rattle.std.specs.Prelude.{Option, Some, None, bit_and, bit_or}
 use Rattle.std.specs.Int.{bit_at, bit_not, w64}
 use Rattle.std.proofs.lemmas.List.{set-get_or, length-replicate, get_or-replicate}
@@ -10,7 +10,7 @@ use lib.ListN.{get_elem?}
 use Rattle.atomic_table.specs.Table.{State, Me, Act, keeps, takes, step, stepped, Valid, homes_after, carried_after, opening, Splits, Joins}
 use Rattle.atomic_table.proofs.Lists.{set_else}
 use Rattle.carried_slots.specs.Acts.{becomes}
-use Rattle.carried_slots.specs.Carried.{content, numbers, but, front, IsDistinct}
+use Rattle.carried_slots.specs.Carried.{content, numbers, but, front}
 use Rattle.carried_slots.specs.SlotLaws.{Becomes}
 use Rattle.carried_slots.proofs.EmptySlots.{empty_is_but}
 use Rattle.carried_slots.proofs.Lookups.{some_content, but_weighs, but_gone, among_itself, among_but, front_weighs, front_among}
@@ -19,7 +19,7 @@ use Rattle.unit_model.specs.Sharing.{Owned, Holds}
 use Rattle.unit_model.specs.Weights.{weigh, is_number, times, one_if, below}
 use Rattle.unit_model.proofs.Sharing.{owned_stays, owned_split, owned_join, owned_moves, owned_here}
 use Rattle.unit_model.proofs.Views.{sum_at}
-use Rattle.unit_model.proofs.Weights.{below_is, below_is_not, is_number_same}
+use Rattle.unit_model.proofs.Weights.{below_is, below_is_not}
 use Rattle.chunk_map.specs.Rule.{map_words, table_index, word_number}
 use Rattle.chunk_map.specs.Views.{held_by, empty, together, does, frees_one}
 use Rattle.chunk_map.specs.Words.{is_free, free_weight, Takes, Frees}

@@ -1,5 +1,5 @@
 //! The table, and how it and its seats are made and ended.
-ghost use Rattle.std.specs.Prelude.{ℕ, ◌≡◌, ◌+◌, ◌*◌, ◌≤◌, [], IfOk};
+ghost use Rattle.std.specs.Prelude.{ℕ, ◌≡◌, ◌+◌, ◌*◌, ◌≤◌, [], IfOk, None};
 
 use crate::seat::SlotSeat;
 use atomic_table::{Join, Play, Split, Table, TableRule};
@@ -102,6 +102,7 @@ pub struct SlotTable<T> {
 }
 
 impl<T> SlotTable<T> {
+    ghost use Rattle.carried_slots.specs.Carried.{content};
     ghost use Rattle.chunk_map.specs.Views.{empty, together};
     ghost use Rattle.segment_table.specs.Owning.{BelongsTo, knows, slots_of};
 
@@ -141,7 +142,7 @@ impl<T> SlotTable<T> {
     /// Ends a seat that holds nothing. What it did stays counted with the first one.
     pub fn join(&self, seat: &mut SlotSeat<T>, other: SlotSeat<T>)
         requires own { BelongsTo seat.old self.now × BelongsTo other self.now }
-        requires none { slots_of other ≡ [] }
+        requires none { (chunk : ℕ) → content (slots_of other) chunk ≡ None }
         ensures own { BelongsTo seat.new self.now }
         ensures view { knows seat.new ≡ together (knows seat.old) (knows other) }
         ensures kept { slots_of seat.new ≡ slots_of seat.old }

@@ -1,5 +1,7 @@
-ghost use Rattle.std.specs.Prelude.{◌≡◌, ℕ};
-ghost use Rattle.segment_table.specs.Owning.{BelongsTo};
+ghost use Rattle.std.specs.Prelude.{◌≡◌, ◌≤◌, [], length};
+ghost use Rattle.carried_slots.specs.RunSlots.{HasEmpty};
+ghost use Rattle.unit_model.specs.Runs.{chunks_for};
+ghost use Rattle.segment_table.specs.Owning.{BelongsTo, first_of, slots_of};
 
 use super::*;
 use chunk_map::Claim;
@@ -36,6 +38,26 @@ impl Handlers for NoHandlers {
     }
 }
 
+// Fills a run, and reads it.
+fn fill_and_read(
+    segments: &Segments<NoHandlers>,
+    seat: &mut SegSeat<NoHandlers>,
+    run: Run,
+    pieces: &mut Pieces<NoHandlers>,
+    back: &mut Pieces<NoHandlers>,
+)
+    requires own { BelongsTo seat.old segments.now }
+    requires empty { HasEmpty (first_of run) (chunks_for run.size) (slots_of seat.old) }
+    requires many { length pieces.old.parcels ≡ chunks_for run.size }
+    requires room { (back.old.parcels ≡ []) × (chunks_for run.size ≤ back.old.spare) }
+    ensures own { BelongsTo seat.new segments.now }
+    ensures empty { HasEmpty (first_of run) (chunks_for run.size) (slots_of seat.new) }
+    ensures same { back.new.parcels ≡ pieces.old.parcels }
+{
+    segments.fill(seat, run, pieces);
+    segments.read(seat, run, back);
+}
+
 #[test]
 fn what_was_filled_is_read_in_order(rt: HostRuntime) -> Result<(), AllocError> {
     let alloc = rt.alloc();
@@ -47,10 +69,9 @@ fn what_was_filled_is_read_in_order(rt: HostRuntime) -> Result<(), AllocError> {
     };
     assert_eq!(rt; (run.segment, run.chunk), (0, 0));
     assert_eq!(rt; pieces.len(), run.chunk_count() as usize);
-    segments.fill(&mut seat, run, &mut pieces);
-    assert_eq!(rt; pieces.len(), 0);
     let mut back: Pieces<NoHandlers> = Pieces::room(alloc, run.chunk_count())?;
-    segments.read(&mut seat, run, &mut back);
+    fill_and_read(&segments, &mut seat, run, &mut pieces, &mut back);
+    assert_eq!(rt; pieces.len(), 0);
     segments.release(&mut seat, run);
     let (Some(first), Some(second)) = (back.pop(), back.pop()) else {
         panic!(rt; "fewer than two parcels were read")

@@ -1,4 +1,4 @@
-use Rattle.std.proofs.Common.{ℕ, ◌≡◌, ◌+◌, ◌*◌, ◌<◌, ◌∙◌, refl, ap, arith, length}
+use Rattle.std.proofs.Common.{◌*◌, ◌<◌, ◌∙◌, refl, ap, arith, length}
 use Rattle.unit_model.specs.Runs.{chunks_for}
 use Rattle.segment_table.specs.Owning.{first_of}
 use Rattle.segment_table.proofs.SeatFacts.{holds_empty}

@@ -1,4 +1,4 @@
-use Rattle.std.proofs.Common.{ℕ, ◌≡◌, ◌+◌, ◌<◌, ◌≤◌, ◌∙◌, refl, subst, arith, length}
+use Rattle.std.proofs.Common.{ℕ, ◌≡◌, ◌<◌, ◌∙◌, refl, subst, arith}
 use Rattle.carried_slots.specs.RunSlots.{HasEmpty}
 use Rattle.unit_model.specs.Runs.{chunks_for}
 use Rattle.segment_table.specs.Owning.{first_of}

@@ -1,5 +1,4 @@
-use Rattle.std.proofs.Common.{ℕ, ◌≡◌, ◌+◌, ◌*◌, ◌/◌, ◌%◌, ◌<◌, ◌∙◌, ap, arith}
-use Rattle.std.specs.Prelude.{Some, None}
+use Rattle.std.proofs.Common.{◌≡◌, ◌+◌, ◌*◌, ◌/◌, ◌%◌, ◌<◌, ◌∙◌, ap, arith}
 use Rattle.carried_slots.specs.Carried.{content}
 use Rattle.carried_slots.proofs.EmptySlots.{empty_known}
 use Rattle.segment_table.proofs.SeatFacts.{holds_empty}

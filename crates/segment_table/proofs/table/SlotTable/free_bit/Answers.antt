@@ -1,4 +1,4 @@
-use Rattle.std.proofs.Common.{ℕ, ◌≡◌, ◌+◌, ◌*◌, ◌<◌, ◌∙◌, refl, sym, ap, subst, arith}
+use Rattle.std.proofs.Common.{ℕ, ◌≡◌, ◌+◌, ◌*◌, ◌∙◌, refl, sym, ap, subst, arith}
 use Rattle.carried_slots.specs.Carried.{content}
 use Rattle.chunk_map.specs.Rule.{table_index, word_number}
 use Rattle.chunk_map.proofs.Numbers.{index_within, number_back}

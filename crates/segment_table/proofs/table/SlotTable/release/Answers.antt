@@ -1,5 +1,4 @@
 use Rattle.std.proofs.Common.{ℕ, ◌≡◌, ◌+◌, ◌-◌, ◌*◌, ◌<◌, ◌∙◌, ap, arith}
-use Rattle.std.specs.Prelude.{Option}
 use Rattle.carried_slots.proofs.EmptySlots.{known_empty}
 use Rattle.unit_model.specs.Runs.{chunks_for}
 use Rattle.chunk_map.specs.Gains.{given_back}

@@ -1,4 +1,4 @@
-use Rattle.std.proofs.Common.{ℕ, ◌≡◌, ◌+◌, ◌*◌, ◌<◌, ◌∙◌, ⊎_elim, refl, sym, ap, subst, arith}
+use Rattle.std.proofs.Common.{ℕ, ◌+◌, ◌*◌, ◌<◌, ◌∙◌, ⊎_elim, refl, sym, ap, subst, arith}
 use Rattle.chunk_map.specs.Rule.{table_index, word_number}
 use Rattle.chunk_map.proofs.Numbers.{index_within, number_back}
 use Rattle.segment_table.specs.Seats.{IsSeat}
