@@ -37,4 +37,6 @@ pub use stretches::PART_SIZE;
 pub use writing::{record_of, write_record, write_reply};
 
 #[cfg(test)]
+mod part_tests;
+#[cfg(test)]
 mod tests;

@@ -3,7 +3,7 @@ use std::alloc::{AllocError, Global};
 use std::test::*;
 
 // The record of stream 2, a GET of / for the handler `hello`, from 127.0.0.1:40000 at 10.0.0.1:8080.
-fn request_bytes() -> &'static [u8] {
+pub(crate) fn request_bytes() -> &'static [u8] {
     &[
         0, 0, 0, 0, 0, 0, 0, 2, 0, 0, 0, 5, 104, 101, 108, 108, 111, 1, 0, 0, 0, 3, 71, 69, 84, 0,
         0, 0, 1, 47, 0, 0, 0, 1, 47, 0, 0, 0, 0, 0, 0, 0, 1, 97, 127, 0, 0, 1, 156, 64, 10, 0, 0,
