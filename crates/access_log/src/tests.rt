@@ -28,7 +28,8 @@ fn get(rt: &HostRuntime, target: &[u8], path: &[u8]) -> Result<Request, Fail> {
 
 #[test]
 fn tells_of_a_request(rt: HostRuntime) -> Result<(), Fail> {
-    let text = b"$remote_addr \"$request_line\" $status $body_bytes_sent \"$header_referer\" \"$header_user_agent\"";
+    let text =
+        b"$remote_addr \"$request_line\" $status $body_bytes_sent \"$header_referer\" \"$header_user_agent\"";
     let format = Format::parse(rt.alloc(), text)?.ok_or("a format")?;
     let request = get(&rt, b"/", b"/")?;
     let mut out = bytes(&rt, b"")?;

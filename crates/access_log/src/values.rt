@@ -38,12 +38,15 @@ pub(crate) fn append_value(buffer: &mut LineBuffer, name: &[u8], exchange: &Exch
         return buffer.push(b'$');
     }
     if name == b"status".as_slice() {
-        return append_logged(buffer, Value::Text(TextBytes::plain(&digits_of(exchange.status))));
+        return append_logged(
+            buffer,
+            Value::Text(TextBytes::plain(&digits_of(exchange.status))),
+        );
     }
     if name == b"body_bytes_sent".as_slice() {
         let mut digits = Buffer::new();
-        let text = digits.format(exchange.body);
-        return append_logged(buffer, Value::Text(TextBytes::plain(text.as_bytes())));
+        let number = digits.format(exchange.body);
+        return append_logged(buffer, text(number.as_bytes()));
     }
     match exchange.request {
         Some(request) => append_request_value(buffer, name, request),
@@ -65,11 +68,18 @@ fn append_request_value(buffer: &mut LineBuffer, name: &[u8], request: &Request)
 fn append_request_line(buffer: &mut LineBuffer, request: &Request)
     ensures { Appends (logged (request_line_of request.now)) buffer.old buffer.new }
 {
-    append_bytes(buffer, request.method.as_slice());
+    append_rest(buffer, text(request.method.as_slice()));
     buffer.push(b' ');
-    append_bytes(buffer, request.target.as_slice());
+    append_rest(buffer, text(request.target.as_slice()));
     buffer.push(b' ');
-    append_bytes(buffer, protocol_of(request.minor));
+    append_rest(buffer, text(protocol_of(request.minor)));
+}
+
+/// A text as a value.
+fn text(bytes: &[u8]) -> Value<'_>
+    ensures { value_left result ≡ bytes.now }
+{
+    Value::Text(TextBytes::plain(bytes))
 }
 
 /// The protocol's name and version.
@@ -109,12 +119,15 @@ fn append_number(buffer: &mut LineBuffer, number: u32)
     requires { number < 256 }
     ensures { Appends (decimal number) buffer.old buffer.new }
 {
-    if number >= 100 {
-        buffer.push(b'0' + (number / 100) as u8);
+    if number < 10 {
+        return buffer.push(b'0' + number as u8);
     }
-    if number >= 10 {
-        buffer.push(b'0' + (number / 10 % 10) as u8);
+    if number < 100 {
+        buffer.push(b'0' + (number / 10) as u8);
+        return buffer.push(b'0' + (number % 10) as u8);
     }
+    buffer.push(b'0' + (number / 100) as u8);
+    buffer.push(b'0' + (number / 10 % 10) as u8);
     buffer.push(b'0' + (number % 10) as u8);
 }
 
@@ -138,15 +151,6 @@ fn append_rest(buffer: &mut LineBuffer, rest: Value<'_>)
 {
     for byte in rest {
         append_byte(buffer, byte);
-    }
-}
-
-/// Puts the bytes of a value behind the line.
-fn append_bytes(buffer: &mut LineBuffer, text: &[u8])
-    ensures { Appends (logged_bytes text.now) buffer.old buffer.new }
-{
-    for byte in text {
-        append_byte(buffer, *byte);
     }
 }
 
@@ -175,5 +179,9 @@ fn capital_digit(number: u8) -> u8
     requires { number < 16 }
     ensures { result ≡ digit_glyph true number }
 {
-    if number < 10 { b'0' + number } else { b'A' + (number - 10) }
+    if number < 10 {
+        b'0' + number
+    } else {
+        b'A' + (number - 10)
+    }
 }

@@ -1,6 +1,12 @@
-//! What a step changes: the target of a request, and the header fields of its reply.
+//! What a step changes: the path and the target of a request, and the header fields of its reply.
 #![tactic(auto)]
 
+mod laws;
+mod response_headers;
 mod rewrite;
+#[cfg(test)]
+mod tests;
 
-pub use rewrite::Rewritten;
+pub use laws::rewritten_targets_have_their_paths;
+pub use response_headers::{changed_fields, fielded};
+pub use rewrite::{Rewritten, rewrite, rewritten};
