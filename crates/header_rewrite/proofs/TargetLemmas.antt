@@ -1,8 +1,10 @@
 -- The raw path of a rewritten target.
-use Rattle.std.proofs.Common.{◌≡◌, ℕ, ◌≤◌, true, false, Bool, not, ltb, eqb, ◌||◌, List, [], ◌∷◌, ◌++◌, take, All, refl, sym, ap, ◌∙◌, append-nil, arith}
-use Rattle.std.specs.List.{before_first}
+use Rattle.std.proofs.Common.{◌≡◌, ℕ, ◌+◌, ◌<◌, ◌≤◌, suc, length, get_or, true, false, Bool, not, ltb, eqb, ◌||◌, List, [], ◌∷◌, ◌++◌, take, All, refl, sym, ap, ◌∙◌, append-nil, arith}
+use Rattle.std.specs.List.{before_first, flat_map, prefix_len}
 use Rattle.std.proofs.lemmas.Bool.{cond-true, cond-false, cond_both, or_parts}
 use Rattle.std.proofs.lemmas.Bool.Decides.{nat_tests}
+use Rattle.std.proofs.lemmas.Grind.{flat_map-append}
+use Rattle.std.proofs.lemmas.List.{take_more}
 use Rattle.std.proofs.lemmas.List.Elements.{All-nil, All-cons, All-head, All-tail, All-append, All-weaker}
 use Rattle.percent_encoding.specs.Percent.{percent_encode_byte, percent_decode}
 use Rattle.percent_encoding.proofs.PercentLemmas.{IsByte, IsEscapeByte, All-percent_encode_byte, percent_decode-nil, percent_decode-percent_encode_byte, percent_decode_not_percent}
@@ -10,6 +12,12 @@ use Rattle.http_front.specs.Target.{is_question, is_hash, has_scheme, local_part
 use Rattle.path_normal.specs.Path.{normal_path_of, joined_segments, segments_of}
 use Rattle.path_normal.proofs.LawLemmas.{begins_with_slash, joins}
 use Rattle.header_rewrite.specs.Rewrite.{is_escaped_in_path, path_byte, path_in_target, query_in_target, target_with}
+
+-- one more byte of a path
+pub path_more : (path : List ℕ) (i : ℕ) → i < length path → path_in_target (take (i + 1) path) ≡ path_in_target (take i path) ++ path_byte (get_or path i 0)
+path_more path i inside =
+    ap path_in_target (take_more path i 0 inside) ∙ flat_map-append path_byte (take i path) (get_or path i 0 ∷ [])
+    ∙ ap (λ t. path_in_target (take i path) ++ t) (append-nil (path_byte (get_or path i 0)))
 
 -- ---- a path as it stands in a target has no `?` and no `#`
 
@@ -40,7 +48,9 @@ all_in_path (b ∷ bs) = All-append IsInPath (path_byte b) (path_in_target bs) (
 -- ---- what stands before the first byte that passes a test
 
 before_other : (p : ℕ → Bool) (b : ℕ) (bs : List ℕ) → p b ≡ false → before_first p (b ∷ bs) ≡ b ∷ before_first p bs
-before_other p b bs other = ap (λ n. take n (b ∷ bs)) (cond-true _ _ _ (ap not other))
+before_other p b bs other =
+    let more : 1 + prefix_len (λ x. not (p x)) bs ≡ suc (prefix_len (λ x. not (p x)) bs) = omega arith in
+    ap (λ n. take n (b ∷ bs)) (cond-true _ _ _ (ap not other) ∙ more)
 
 before_behind : (p : ℕ → Bool) (front rest : List ℕ) → All (λ b. p b ≡ false) front → before_first p (front ++ rest) ≡ front ++ before_first p rest
 before_behind p [] rest clean = refl
@@ -55,7 +65,7 @@ path_before_query front [] clean =
 path_before_query front (b ∷ query) clean =
     let no_hash = All-weaker IsInPath (λ c. is_hash c ≡ false) (λ c h. h.1) front clean in
     let no_question = All-weaker IsInPath (λ c. is_question c ≡ false) (λ c h. h.0) front clean in
-    ap (before_first is_question) (before_behind is_hash front (63 ∷ b ∷ query) no_hash)
+    ap (before_first is_question) (before_behind is_hash front (63 ∷ b ∷ query) no_hash ∙ ap (λ t. front ++ t) (before_other is_hash 63 (b ∷ query) refl))
     ∙ before_behind is_question front (63 ∷ before_first is_hash (b ∷ query)) no_question ∙ append-nil front
 
 -- ---- a rewritten target

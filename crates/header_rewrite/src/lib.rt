@@ -7,6 +7,6 @@ mod rewrite;
 #[cfg(test)]
 mod tests;
 
-pub use laws::rewritten_targets_have_their_paths;
+pub use laws::{rewritten_targets_have_their_paths, steps_that_change_nothing_leave_all};
 pub use response_headers::{changed_fields, fielded};
 pub use rewrite::{Rewritten, rewrite, rewritten};

@@ -103,6 +103,7 @@ fn target_with(alloc: Global, path: &[u8], query: &[u8]) -> Result<Bytes, AllocE
 }
 
 /// A path as it stands in a target.
+#[tactic(auto, using(crate::proofs::TargetLemmas::path_more))]
 fn path_in_target(alloc: Global, path: &[u8]) -> Result<Vec<u8>, AllocError>
     ensures { IfOk result (λ text. text.items ≡ path_in_target path.now) }
 {
