@@ -26,27 +26,38 @@ fn get(rt: &HostRuntime, target: &[u8], path: &[u8]) -> Result<Request, Fail> {
     })
 }
 
+/// The line of a format for such a request.
+fn line_of(
+    rt: &HostRuntime,
+    format: &[u8],
+    request: Option<&Request>,
+    status: u16,
+) -> Result<Bytes, Fail>
+    requires { status < 1000 }
+{
+    let format = Format::parse(rt.alloc(), format)?.ok_or("a format")?;
+    let mut out = Bytes::of(Vec::new(rt.alloc()));
+    line(&format, CLIENT, request, status, 14, &mut out)?;
+    Ok(out)
+}
+
 #[test]
 fn tells_of_a_request(rt: HostRuntime) -> Result<(), Fail> {
-    let text =
+    let format =
         b"$remote_addr \"$request_line\" $status $body_bytes_sent \"$header_referer\" \"$header_user_agent\"";
-    let format = Format::parse(rt.alloc(), text)?.ok_or("a format")?;
     let request = get(&rt, b"/", b"/")?;
-    let mut out = bytes(&rt, b"")?;
-    line(&format, CLIENT, Some(&request), 200, 14, &mut out)?;
-    assert!(rt; out.as_slice() == b"127.0.0.1 \"GET / HTTP/1.1\" 200 14 \"-\" \"-\"\n".as_slice());
-    line(&format, CLIENT, None, 400, 12, &mut out)?;
-    assert!(rt; &out.as_slice()[42..] == b"127.0.0.1 \"-\" 400 12 \"-\" \"-\"\n".as_slice());
+    let told = line_of(&rt, format, Some(&request), 200)?;
+    assert!(rt; told.as_slice() == b"127.0.0.1 \"GET / HTTP/1.1\" 200 14 \"-\" \"-\"\n".as_slice());
+    let refused = line_of(&rt, format, None, 400)?;
+    assert!(rt; refused.as_slice() == b"127.0.0.1 \"-\" 400 14 \"-\" \"-\"\n".as_slice());
     Ok(())
 }
 
 #[test]
 fn no_value_ends_a_line(rt: HostRuntime) -> Result<(), Fail> {
-    let format = Format::parse(rt.alloc(), b"$uri")?.ok_or("a format")?;
     let request = get(&rt, b"/a%0Ab", b"/a\nb")?;
-    let mut out = bytes(&rt, b"")?;
-    line(&format, CLIENT, Some(&request), 200, 0, &mut out)?;
-    assert!(rt; out.as_slice() == b"/a\\x0Ab\n".as_slice());
-    assert!(rt; Format::parse(rt.alloc(), b"$none")?.is_none());
+    let told = line_of(&rt, b"$uri", Some(&request), 200)?;
+    assert!(rt; told.as_slice() == b"/a\\x0Ab\n".as_slice());
+    assert!(rt; line_of(&rt, b"$none", None, 200).is_err());
     Ok(())
 }

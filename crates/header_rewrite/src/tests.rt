@@ -13,10 +13,10 @@ use unit_types::{Addr, Bytes, Field, Fields, Reply, Request};
 const DOCUMENT: &[u8] =
     br#"{"applications":{"h":{"type":"external","executable":"hello"}},"listeners":{"*:8080":{"pass":"routes"}},"routes":[{"action":{"pass":"applications/h","rewrite":"/v1$uri","response_headers":{"X-App":"one","content-type":null}}}]}"#;
 
-fn document(alloc: Global) -> Result<Tree, Fail>
+fn document(alloc: Global, text: &[u8]) -> Result<Tree, Fail>
     ensures { IfOk result (λ tree. IsDocument (data_of tree)) }
 {
-    match read_tree(alloc, DOCUMENT)? {
+    match read_tree(alloc, text)? {
         Some(tree) => Ok(tree),
         None => Err("no document")?,
     }
@@ -28,15 +28,15 @@ fn handlers(alloc: Global) -> Result<[Bytes; 1], AllocError>
     Ok([Bytes::copy_of(alloc, b"hello")?])
 }
 
-fn configuration(alloc: Global) -> Result<Conf, Fail> {
-    let tree = document(alloc)?;
+fn configuration(alloc: Global, text: &[u8]) -> Result<Conf, Fail> {
+    let tree = document(alloc, text)?;
     match validate(alloc, &tree, &handlers(alloc)?) {
         Ok(conf) => Ok(conf),
         Err(_) => Err("refused")?,
     }
 }
 
-fn request(alloc: Global) -> Result<Request, AllocError> {
+fn asked(alloc: Global) -> Result<Request, AllocError> {
     Ok(Request {
         method: Bytes::copy_of(alloc, b"GET")?,
         target: Bytes::copy_of(alloc, b"/a?x=1")?,
@@ -51,10 +51,23 @@ fn request(alloc: Global) -> Result<Request, AllocError> {
     })
 }
 
+fn hello(alloc: Global) -> Result<Reply, Fail> {
+    let mut list = Vec::new(alloc);
+    list.push(Field {
+        name: Bytes::copy_of(alloc, b"Content-Type")?,
+        value: Bytes::copy_of(alloc, b"text/plain")?,
+    })?;
+    Ok(Reply {
+        status: 200,
+        fields: Fields::of(list),
+        body: Bytes::copy_of(alloc, b"Hello, world!\n")?,
+    })
+}
+
 #[test]
 fn rewrites_path_and_target(rt: HostRuntime) -> Result<(), Fail> {
-    let conf = configuration(rt.alloc())?;
-    let mut came = request(rt.alloc())?;
+    let conf = configuration(rt.alloc(), DOCUMENT)?;
+    let mut came = asked(rt.alloc())?;
     let new = rewritten(rt.alloc(), &conf, Some(0), &came)?;
     assert!(rt; new.target.as_slice() == b"/v1/a?x=1".as_slice());
     assert!(rt; new.path.as_slice() == b"/v1/a".as_slice());
@@ -68,18 +81,9 @@ fn rewrites_path_and_target(rt: HostRuntime) -> Result<(), Fail> {
 
 #[test]
 fn changes_fields(rt: HostRuntime) -> Result<(), Fail> {
-    let conf = configuration(rt.alloc())?;
-    let mut list = Vec::new(rt.alloc());
-    list.push(Field {
-        name: Bytes::copy_of(rt.alloc(), b"Content-Type")?,
-        value: Bytes::copy_of(rt.alloc(), b"text/plain")?,
-    })?;
-    let reply = Reply {
-        status: 200,
-        fields: Fields::of(list),
-        body: Bytes::copy_of(rt.alloc(), b"Hello, world!\n")?,
-    };
-    let new = fielded(rt.alloc(), &conf, Some(0), &request(rt.alloc())?, &reply)?;
+    let conf = configuration(rt.alloc(), DOCUMENT)?;
+    let reply = hello(rt.alloc())?;
+    let new = fielded(rt.alloc(), &conf, Some(0), &asked(rt.alloc())?, &reply)?;
     assert_eq!(rt; new.fields.as_slice().len(), 1);
     assert!(rt; new.fields.as_slice()[0].name.as_slice() == b"X-App".as_slice());
     assert!(rt; new.fields.as_slice()[0].value.as_slice() == b"one".as_slice());
