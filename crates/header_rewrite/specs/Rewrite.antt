@@ -7,7 +7,7 @@ use Rattle.path_normal.specs.Path.{normal_path_of}
 use Rattle.path_normal.specs.Variables.{expansion_of}
 use Rattle.conf_validate.specs.Configuration.{Configuration, rewrite_at}
 use Rattle.unit_types.specs.declared.message.Request.{Request}
-use Rattle.header_rewrite.specs.declared.rewrite.Rewritten.{Rewritten}
+use Rattle.header_rewrite.specs.declared.targets.NewTarget.{NewTarget}
 
 -- a byte that no path of a target has as itself: one outside 0x21 to 0x7E, `%`, `?` and `#`
 abbrev pub is_escaped_in_path : ℕ → Bool
@@ -35,7 +35,7 @@ abbrev pub target_with : List ℕ → List ℕ → List ℕ
 target_with path query = path_in_target path ++ query_in_target query
 
 -- the path and the target that a text says for a request
-abbrev pub rewritten_by : List ℕ → Request → Rewritten
+abbrev pub rewritten_by : List ℕ → Request → NewTarget
 rewritten_by text request = record {
   path = rewritten_path text request;
   target = target_with (rewritten_path text request) request.query;
@@ -46,11 +46,11 @@ abbrev pub rewrite_of_step : Configuration → Option ℕ → Option (List ℕ)
 rewrite_of_step conf step = option_and_then (rewrite_at conf) step
 
 -- what this step changes in a request
-abbrev pub rewrite_of : Configuration → Option ℕ → Request → Option Rewritten
+abbrev pub rewrite_of : Configuration → Option ℕ → Request → Option NewTarget
 rewrite_of conf step request = option_map (λ text. rewritten_by text request) (rewrite_of_step conf step)
 
 -- a request with its path and target changed, all else as it was
-abbrev pub with_rewrite : Request → Option Rewritten → Request
+abbrev pub with_rewrite : Request → Option NewTarget → Request
 with_rewrite request None = request
 with_rewrite request (Some new) = record request { path = new.path; target = new.target }
 

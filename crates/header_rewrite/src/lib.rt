@@ -3,10 +3,10 @@
 
 mod laws;
 mod response_headers;
-mod rewrite;
+mod targets;
 #[cfg(test)]
 mod tests;
 
 pub use laws::{rewritten_targets_have_their_paths, steps_that_change_nothing_leave_all};
 pub use response_headers::{changed_fields, fielded};
-pub use rewrite::{Rewritten, rewrite, rewritten};
+pub use targets::{NewTarget, rewrite, rewritten};

@@ -11,14 +11,14 @@ use unit_types::{Bytes, Request};
 
 /// What a rewrite changes in a request.
 #[derive(Debug, Drop)]
-pub struct Rewritten {
+pub struct NewTarget {
     /// The path, in its normal form.
     pub path: Bytes,
     /// The target: that path as it stands in one, and the query of the request.
     pub target: Bytes,
 }
 
-impl Rewritten {
+impl NewTarget {
     /// Exchanges both with those of the request; nothing is copied. A second call brings the request back.
     pub fn exchange(&mut self, request: &mut Request)
         ensures request { request.new ≡ with_rewrite request.old (Some self.old) }
@@ -60,7 +60,7 @@ pub fn rewrite(
     conf: &Conf,
     step: Option<usize>,
     request: &Request,
-) -> Result<Option<Rewritten>, AllocError>
+) -> Result<Option<NewTarget>, AllocError>
     ensures { IfOk result (λ new. new ≡ rewrite_of conf.now step request.now) }
 {
     match rewrite_of_step(conf, step) {
@@ -80,14 +80,14 @@ fn rewrite_of_step(conf: &Conf, step: Option<usize>) -> Option<&[u8]>
 }
 
 /// The path and the target that a text says for a request.
-fn rewritten_by(alloc: Global, text: &[u8], request: &Request) -> Result<Rewritten, AllocError>
+fn rewritten_by(alloc: Global, text: &[u8], request: &Request) -> Result<NewTarget, AllocError>
     ensures { IfOk result (λ new. new ≡ rewritten_by text.now request.now) }
 {
     let expanded = expand(alloc, text, request, false)?;
     let raw = path_in_target(alloc, expanded.as_slice())?;
     let path = normal_path(alloc, &raw)?;
     let target = target_with(alloc, path.as_slice(), request.query.as_slice())?;
-    Ok(Rewritten { path, target })
+    Ok(NewTarget { path, target })
 }
 
 /// The target of this path with this query.
