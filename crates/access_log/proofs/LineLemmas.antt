@@ -1,12 +1,12 @@
 -- No line has an LF but at its end.
-use Rattle.std.proofs.Common.{◌≡◌, ◌≢◌, ℕ, ◌+◌, ◌/◌, ◌%◌, ◌≤◌, zero, suc, true, ltb, eqb, List, [], ◌∷◌, ◌++◌, length, drop, take, Option, All, nat_eq, refl, arith}
+use Rattle.std.proofs.Common.{◌≢◌, ℕ, ◌+◌, ◌/◌, ◌%◌, ◌≤◌, zero, suc, true, ltb, eqb, List, [], ◌∷◌, length, drop, take, Option, All, nat_eq, refl, arith}
 use Rattle.std.specs.Fmt.{digit_glyph}
 use Rattle.std.specs.List.{flat_map, starts_with}
 use Rattle.std.proofs.lemmas.Bool.{cond_both}
 use Rattle.std.proofs.lemmas.Bool.Decides.{nat_tests}
 use Rattle.std.proofs.lemmas.List.{length-take}
 use Rattle.std.proofs.lemmas.List.Elements.{All-nil, All-cons, All-head, All-tail, All-append, All-take}
-use Rattle.path_normal.specs.Variables.{PieceText, byte, variable, stray, run_len, begins_closed_name, begins_name, braced, bare, behind_dollar, pieces_past, pieces_of, piece_value, expansion_with}
+use Rattle.path_normal.specs.Variables.{PieceText, byte, variable, stray, run_len, begins_closed_name, begins_name, braced, bare, behind_dollar, pieces_past, piece_value}
 use Rattle.unit_types.specs.declared.message.Addr.{Addr}
 use Rattle.unit_types.specs.declared.message.Request.{Request}
 use Rattle.access_log.specs.Line.{IsLogLine, is_plain, line_limit, log_line, log_text, log_value, logged, logged_byte, logged_bytes}

@@ -1,7 +1,7 @@
 //! Lines of the access log.
 ghost use Rattle.std.specs.Prelude.{◌≡◌, ◌<◌, ◌++◌, option_map, OnOk, OnErr};
 ghost use Rattle.access_log.specs.Buffer.{Appends};
-ghost use Rattle.access_log.specs.Line.{IsLogLine, log_line, log_text};
+ghost use Rattle.access_log.specs.Line.{log_line, log_text};
 
 use crate::buffer::LineBuffer;
 use crate::format::Format;

@@ -41,6 +41,11 @@ fn line_of(
     Ok(out)
 }
 
+/// Whether the text is a format.
+fn is_format(rt: &HostRuntime, text: &[u8]) -> Result<bool, Fail> {
+    Ok(Format::parse(rt.alloc(), text)?.is_some())
+}
+
 #[test]
 fn tells_of_a_request(rt: HostRuntime) -> Result<(), Fail> {
     let format =
@@ -58,6 +63,6 @@ fn no_value_ends_a_line(rt: HostRuntime) -> Result<(), Fail> {
     let request = get(&rt, b"/a%0Ab", b"/a\nb")?;
     let told = line_of(&rt, b"$uri", Some(&request), 200)?;
     assert!(rt; told.as_slice() == b"/a\\x0Ab\n".as_slice());
-    assert!(rt; line_of(&rt, b"$none", None, 200).is_err());
+    assert!(rt; !is_format(&rt, b"$none")?);
     Ok(())
 }

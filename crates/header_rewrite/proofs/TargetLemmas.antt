@@ -1,6 +1,6 @@
 -- The raw path of a rewritten target.
-use Rattle.std.proofs.Common.{◌≡◌, ℕ, ◌+◌, ◌<◌, ◌≤◌, suc, length, get_or, true, false, Bool, not, ltb, eqb, ◌||◌, List, [], ◌∷◌, ◌++◌, take, All, refl, sym, ap, ◌∙◌, append-nil, arith}
-use Rattle.std.specs.List.{before_first, flat_map, prefix_len}
+use Rattle.std.proofs.Common.{◌≡◌, ℕ, ◌+◌, ◌<◌, suc, length, get_or, false, Bool, not, ltb, eqb, ◌||◌, List, [], ◌∷◌, ◌++◌, take, All, refl, ap, ◌∙◌, append-nil, arith}
+use Rattle.std.specs.List.{before_first, prefix_len}
 use Rattle.std.proofs.lemmas.Bool.{cond-true, cond-false, cond_both, or_parts}
 use Rattle.std.proofs.lemmas.Bool.Decides.{nat_tests}
 use Rattle.std.proofs.lemmas.Grind.{flat_map-append}

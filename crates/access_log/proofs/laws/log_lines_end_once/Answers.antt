@@ -1,4 +1,4 @@
-use Rattle.std.proofs.Common.{◌≡◌, ℕ, ◌≤◌, true, List, length, nat_le, ◌&&◌, All, arith}
+use Rattle.std.proofs.Common.{◌≡◌, ℕ, true, List, length, nat_le, ◌&&◌, All, arith}
 use Rattle.std.specs.List.{list_all}
 use Rattle.std.proofs.lemmas.Bool.{and_parts}
 use Rattle.std.proofs.lemmas.Bool.Decides.{nat_tests}

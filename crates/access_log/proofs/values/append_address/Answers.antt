@@ -1,4 +1,4 @@
-use Rattle.std.proofs.Common.{◌≡◌, ◌/◌, ◌%◌, ◌++◌, ◌∷◌, [], sym}
+use Rattle.std.proofs.Common.{◌/◌, ◌%◌, ◌++◌, ◌∷◌, [], sym}
 use Rattle.path_normal.specs.Variables.{decimal, dotted}
 use Rattle.access_log.specs.Line.{logged}
 use Rattle.access_log.proofs.BufferLemmas.{appends_both, appends_same}

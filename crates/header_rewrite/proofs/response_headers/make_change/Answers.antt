@@ -1,4 +1,4 @@
-use Rattle.std.proofs.Common.{rules, ◌≡◌, ◌++◌, [], ◌∷◌, not, List, ℕ, filter, sym, ap, ◌∙◌, append-nil}
+use Rattle.std.proofs.Common.{rules, ◌≡◌, ◌++◌, [], ◌∷◌, not, List, ℕ, sym, ap, ◌∙◌, append-nil}
 use Rattle.std.proofs.lemmas.Fn.{filter_same}
 use Rattle.path_normal.specs.Variables.{escaped_expansion_of}
 use Rattle.unit_types.specs.declared.field.Field.{Field}

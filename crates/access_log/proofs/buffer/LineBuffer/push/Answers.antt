@@ -1,4 +1,4 @@
-use Rattle.std.proofs.Common.{rules, ◌≡◌, ◌≤◌, ◌<◌, length, arith}
+use Rattle.std.proofs.Common.{rules, ◌≡◌, length, arith}
 use Rattle.std.proofs.lemmas.List.{length-take}
 use Rattle.access_log.specs.Buffer.{written}
 use Rattle.access_log.proofs.BufferLemmas.{full, pushed}
