@@ -1,3 +1,5 @@
+ghost use Rattle.std.specs.Prelude.{◌<◌};
+
 use crate::{Format, line};
 use std::test::Fail;
 use unit_types::{Addr, Bytes, Fields, Request};
