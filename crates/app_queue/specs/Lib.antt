@@ -1,0 +1,4 @@
+pub mod Queues
+pub mod Parts
+pub mod Arms
+pub mod FrameLaws
