@@ -34,7 +34,7 @@ items_stay V held shape ring ring' views k v u at fine stays same old q lt =
 pub items_move : (V : Type 0) → ItemsMoveLaw V
 items_move V held shape ring ring' views k v u at fine q side stays same moved old =
     at_queue (λ r. Owned (held r) (lines_weight (shape.items r) (ring' r)) (shape.items r) (set views k u)) shape.queues q moved
-    (λ r lt ne. queue_stays (held r) (shape.items r) (ring r) (ring' r) views k v u at (fine r lt) (λ other. stays r lt other (inl ne)) (same r ne) (old r lt))
+    (λ r lt ne. queue_stays (held r) (shape.items r) (ring r) (ring' r) views k v u at (fine r lt) (λ other. stays r lt other (inl ne)) (same r lt ne) (old r lt))
 
 pub items_split : {V : Type 0} (held : ℕ → (ℕ → ℕ) → V → ℕ) (shape : Shape) (ring : ℕ → Side → Words) (views : List V) (k : ℕ) (v left right : V) → get_elem? views k ≡ some v
     → ((q : ℕ) (f : ℕ → ℕ) → held q f left + held q f right ≡ held q f v) → ItemsOwned held shape ring views → ItemsOwned held shape ring (set views k left ++ right ∷ [])

@@ -87,15 +87,15 @@ words_known V says held shape word word' views k v u at stays fewer old q lt =
 pub tags_known_one : (V : Type 0) (says : ℕ → V → ℕ → ℕ → Type 0) → TagsKnownOneLaw V says
 tags_known_one V says held shape tag tag' views k v u at stays q one fewer so old r lt =
     at_queue (λ p. p < shape.queues → AllGood (held p) (says p) (shape.items p) (IsOrZero (tag' p)) (set views k u)) shape.queues q
-    (λ here. good_one (held q) (says q) (shape.items q) (IsOrZero (tag q)) (IsOrZero (tag' q)) views k v u at (old q here) (zero_stays (shape.items q) (tag q) (tag' q) (stays q here)) one (λ i ne holds. fewer q i (inr ne) holds) so)
-    (λ p there ne again. good_stays (held p) (says p) (shape.items p) (IsOrZero (tag p)) (IsOrZero (tag' p)) views k v u at (old p there) (zero_stays (shape.items p) (tag p) (tag' p) (stays p there)) (λ i holds. fewer p i (inl ne) holds))
+    (λ here. good_one (held q) (says q) (shape.items q) (IsOrZero (tag q)) (IsOrZero (tag' q)) views k v u at (old q here) (zero_stays (shape.items q) (tag q) (tag' q) (stays q here)) one (λ i ne holds. fewer q i here (inr ne) holds) so)
+    (λ p there ne again. good_stays (held p) (says p) (shape.items p) (IsOrZero (tag p)) (IsOrZero (tag' p)) views k v u at (old p there) (zero_stays (shape.items p) (tag p) (tag' p) (stays p there)) (λ i holds. fewer p i there (inl ne) holds))
     r lt lt
 
 pub words_known_one : (V : Type 0) (says : ℕ → V → ℕ → ℕ → Type 0) → WordsKnownOneLaw V says
 words_known_one V says held shape word word' views k v u at stays q one fewer so old r lt =
     at_queue (λ p. p < shape.queues → AllGood (held p) (says p) (shape.items p) (IsJust (word' p)) (set views k u)) shape.queues q
-    (λ here. good_one (held q) (says q) (shape.items q) (IsJust (word q)) (IsJust (word' q)) views k v u at (old q here) (just_stays (shape.items q) (word q) (word' q) (stays q here)) one (λ i ne holds. fewer q i (inr ne) holds) so)
-    (λ p there ne again. good_stays (held p) (says p) (shape.items p) (IsJust (word p)) (IsJust (word' p)) views k v u at (old p there) (just_stays (shape.items p) (word p) (word' p) (stays p there)) (λ i holds. fewer p i (inl ne) holds))
+    (λ here. good_one (held q) (says q) (shape.items q) (IsJust (word q)) (IsJust (word' q)) views k v u at (old q here) (just_stays (shape.items q) (word q) (word' q) (stays q here)) one (λ i ne holds. fewer q i here (inr ne) holds) so)
+    (λ p there ne again. good_stays (held p) (says p) (shape.items p) (IsJust (word p)) (IsJust (word' p)) views k v u at (old p there) (just_stays (shape.items p) (word p) (word' p) (stays p there)) (λ i holds. fewer p i there (inl ne) holds))
     r lt lt
 
 pub tags_known_set : (V : Type 0) (says : ℕ → V → ℕ → ℕ → Type 0) → TagsKnownSetLaw V says
@@ -103,8 +103,8 @@ tags_known_set V says held elsewhere shape tag tag' views k v u at q item x q_lt
     at_queue (λ p. p < shape.queues → AllGood (held p) (says p) (shape.items p) (IsOrZero (tag' p)) (set views k u)) shape.queues q
     (λ here. good_set (held q) (says q) (shape.items q) (IsOrZero (tag q)) (IsOrZero (tag' q)) views k v u at (old q here) (elsewhere q) owned item item_lt mine
     (λ i y below_n ne. ⊎_elim (λ is. inl (sets.here.others i below_n ne ∙ is)) (λ none. inr (sets.here.others i below_n ne ∙ none)))
-    (λ i ne holds. fewer q i (inr ne) holds) (λ y told. inl (sets.here.here ∙ sym (so y told))))
-    (λ p there ne again. good_stays (held p) (says p) (shape.items p) (IsOrZero (tag p)) (IsOrZero (tag' p)) views k v u at (old p there) (zero_stays (shape.items p) (tag p) (tag' p) (sets.others p there ne)) (λ i holds. fewer p i (inl ne) holds))
+    (λ i ne holds. fewer q i here (inr ne) holds) (λ y told. inl (sets.here.here ∙ sym (so y told))))
+    (λ p there ne again. good_stays (held p) (says p) (shape.items p) (IsOrZero (tag p)) (IsOrZero (tag' p)) views k v u at (old p there) (zero_stays (shape.items p) (tag p) (tag' p) (sets.others p there ne)) (λ i holds. fewer p i there (inl ne) holds))
     r lt lt
 
 pub words_known_set : (V : Type 0) (says : ℕ → V → ℕ → ℕ → Type 0) → WordsKnownSetLaw V says
@@ -112,8 +112,8 @@ words_known_set V says held elsewhere shape word word' views k v u at q item x q
     at_queue (λ p. p < shape.queues → AllGood (held p) (says p) (shape.items p) (IsJust (word' p)) (set views k u)) shape.queues q
     (λ here. good_set (held q) (says q) (shape.items q) (IsJust (word q)) (IsJust (word' q)) views k v u at (old q here) (elsewhere q) owned item item_lt mine
     (λ i y below_n ne is. sets.here.others i below_n ne ∙ is)
-    (λ i ne holds. fewer q i (inr ne) holds) (λ y told. sets.here.here ∙ sym (so y told)))
-    (λ p there ne again. good_stays (held p) (says p) (shape.items p) (IsJust (word p)) (IsJust (word' p)) views k v u at (old p there) (just_stays (shape.items p) (word p) (word' p) (sets.others p there ne)) (λ i holds. fewer p i (inl ne) holds))
+    (λ i ne holds. fewer q i here (inr ne) holds) (λ y told. sets.here.here ∙ sym (so y told)))
+    (λ p there ne again. good_stays (held p) (says p) (shape.items p) (IsJust (word p)) (IsJust (word' p)) views k v u at (old p there) (just_stays (shape.items p) (word p) (word' p) (sets.others p there ne)) (λ i holds. fewer p i there (inl ne) holds))
     r lt lt
 
 -- the tag of this item alone is 0 then
@@ -127,8 +127,8 @@ zero_won n tag tag' item sets i x lt before =
 pub tags_known_won : (V : Type 0) (says : ℕ → V → ℕ → ℕ → Type 0) → TagsKnownWinLaw V says
 tags_known_won V says held shape tag tag' views k v u at q item sets fewer old r lt =
     at_queue (λ p. p < shape.queues → AllGood (held p) (says p) (shape.items p) (IsOrZero (tag' p)) (set views k u)) shape.queues q
-    (λ here. good_one (held q) (says q) (shape.items q) (IsOrZero (tag q)) (IsOrZero (tag' q)) views k v u at (old q here) (zero_won (shape.items q) (tag q) (tag' q) item sets.here) item (λ i ne holds. fewer q i (inr ne) holds) (λ x told. inr sets.here.here))
-    (λ p there ne again. good_stays (held p) (says p) (shape.items p) (IsOrZero (tag p)) (IsOrZero (tag' p)) views k v u at (old p there) (zero_stays (shape.items p) (tag p) (tag' p) (sets.others p there ne)) (λ i holds. fewer p i (inl ne) holds))
+    (λ here. good_one (held q) (says q) (shape.items q) (IsOrZero (tag q)) (IsOrZero (tag' q)) views k v u at (old q here) (zero_won (shape.items q) (tag q) (tag' q) item sets.here) item (λ i ne holds. fewer q i here (inr ne) holds) (λ x told. inr sets.here.here))
+    (λ p there ne again. good_stays (held p) (says p) (shape.items p) (IsOrZero (tag p)) (IsOrZero (tag' p)) views k v u at (old p there) (zero_stays (shape.items p) (tag p) (tag' p) (sets.others p there ne)) (λ i holds. fewer p i there (inl ne) holds))
     r lt lt
 
 -- ---- seats

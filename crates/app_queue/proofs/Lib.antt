@@ -4,3 +4,6 @@ pub mod ItemFrames
 pub mod TagFrames
 pub mod KnownFrames
 pub mod ArmFrames
+pub mod Places
+pub mod QueueViews
+pub mod QueueSteps

@@ -22,7 +22,7 @@ rings_stay V log shape ring ring' views k v u at stays same old = record {
 pub rings_step : (V : Type 0) → RingStepLaw V
 rings_step V log shape ring ring' views k v u at q side stays same part' worn' old = record {
   rings = at_ring (λ r other. RingPart (shape.items r) (log r other) (ring' r other) (set views k u)) shape.queues q side part'
-      (λ r lt other apart. part_same V (shape.items r) (log r other) (ring r other) (ring' r other) views k v u at (old.rings r lt other) (stays r lt other apart) (same r other apart));
+      (λ r lt other apart. part_same V (shape.items r) (log r other) (ring r other) (ring' r other) views k v u at (old.rings r lt other) (stays r lt other apart) (same r lt other apart));
   worn = at_ring (λ r other. logical_tail (shape.items r) (ring' r other) ≤ 2 ^ 62) shape.queues q side worn'
       (λ r lt other apart. omega (arith, old.worn r lt other, same_tail (shape.items r) (ring r other) (ring' r other) (old.rings r lt other).fine (stays r lt other apart)));
 }

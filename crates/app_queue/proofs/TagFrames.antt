@@ -19,14 +19,14 @@ pub tags_armed : (V : Type 0) → CountedArmLaw V
 tags_armed V arms wins shape tag tag' views k v u at q item x below_n sets was pos here others won old r lt =
     at_queue (λ p. p < shape.queues → Counted (arms p) (wins p) (shape.items p) (tag' p) (set views k u)) shape.queues q
     (λ lt'. counted_arm (arms q) (wins q) (shape.items q) (tag q) (tag' q) views k v u at item x below_n sets.here was pos here (won q) (old q lt'))
-    (λ p lt' ne again. counted_stays (arms p) (wins p) (shape.items p) (tag p) (tag' p) views k v u at (sets.others p lt' ne) (others p ne) (won p) (old p lt'))
+    (λ p lt' ne again. counted_stays (arms p) (wins p) (shape.items p) (tag p) (tag' p) views k v u at (sets.others p lt' ne) (others p lt' ne) (won p) (old p lt'))
     r lt lt
 
 pub tags_won : (V : Type 0) → CountedWinLaw V
 tags_won V arms wins shape tag tag' views k v u at q item x below_n sets is pos armed here others old r lt =
     at_queue (λ p. p < shape.queues → Counted (arms p) (wins p) (shape.items p) (tag' p) (set views k u)) shape.queues q
     (λ lt'. counted_win (arms q) (wins q) (shape.items q) (tag q) (tag' q) views k v u at item x below_n sets.here is pos (armed q) here (old q lt'))
-    (λ p lt' ne again. counted_stays (arms p) (wins p) (shape.items p) (tag p) (tag' p) views k v u at (sets.others p lt' ne) (armed p) (others p ne) (old p lt'))
+    (λ p lt' ne again. counted_stays (arms p) (wins p) (shape.items p) (tag p) (tag' p) views k v u at (sets.others p lt' ne) (armed p) (others p lt' ne) (old p lt'))
     r lt lt
 
 pub counted_splits : {V : Type 0} (arms wins : ℕ → (ℕ → ℕ → ℕ) → V → ℕ) (shape : Shape) (tag : ℕ → ℕ → ℕ) (views : List V) (k : ℕ) (v left right : V) → get_elem? views k ≡ some v

@@ -23,7 +23,7 @@ RingsStayLaw V = (log : ℕ → Side → V → List RingEvent) (shape : Shape) (
 -- A step at one ring: what holds of it then, and the others as they were.
 abbrev pub RingStepLaw : Type 0 → Type 0
 RingStepLaw V = (log : ℕ → Side → V → List RingEvent) (shape : Shape) (ring ring' : ℕ → Side → Words) (views : List V) (k : ℕ) (v u : V) → get_elem? views k ≡ some v
-    → (q : ℕ) (side : Side) → OtherRingsStay shape q side ring ring' → ((r : ℕ) (other : Side) → IsOther q side r other → log r other u ≡ log r other v)
+    → (q : ℕ) (side : Side) → OtherRingsStay shape q side ring ring' → ((r : ℕ) → r < shape.queues → (other : Side) → IsOther q side r other → log r other u ≡ log r other v)
     → RingPart (shape.items q) (log q side) (ring' q side) (set views k u) → logical_tail (shape.items q) (ring' q side) ≤ 2 ^ 62
     → RingParts log shape ring views → RingParts log shape ring' (set views k u)
 
@@ -41,7 +41,7 @@ ItemsStayLaw V = (held : ℕ → (ℕ → ℕ) → V → ℕ) (shape : Shape) (r
 -- a step at one queue: what holds of it then, and the other queues as they were
 abbrev pub ItemsMoveLaw : Type 0 → Type 0
 ItemsMoveLaw V = (held : ℕ → (ℕ → ℕ) → V → ℕ) (shape : Shape) (ring ring' : ℕ → Side → Words) (views : List V) (k : ℕ) (v u : V) → get_elem? views k ≡ some v
-    → AreWellFormed shape ring → (q : ℕ) (side : Side) → OtherRingsStay shape q side ring ring' → ((r : ℕ) → r ≢ q → (f : ℕ → ℕ) → held r f u ≡ held r f v)
+    → AreWellFormed shape ring → (q : ℕ) (side : Side) → OtherRingsStay shape q side ring ring' → ((r : ℕ) → r < shape.queues → r ≢ q → (f : ℕ → ℕ) → held r f u ≡ held r f v)
     → Owned (held q) (lines_weight (shape.items q) (ring' q)) (shape.items q) (set views k u) → ItemsOwned held shape ring views → ItemsOwned held shape ring' (set views k u)
 
 -- ---- free items
@@ -62,14 +62,14 @@ CountedStayLaw V = (arms wins : ℕ → (ℕ → ℕ → ℕ) → V → ℕ) (sh
 abbrev pub CountedArmLaw : Type 0 → Type 0
 CountedArmLaw V = (arms wins : ℕ → (ℕ → ℕ → ℕ) → V → ℕ) (shape : Shape) (tag tag' : ℕ → ℕ → ℕ) (views : List V) (k : ℕ) (v u : V) → get_elem? views k ≡ some v
     → (q item x : ℕ) → item < shape.items q → SetsWord shape tag tag' q item x → tag q item ≡ 0 → 0 < x
-    → ((f : ℕ → ℕ → ℕ) → arms q f u ≡ f item x + arms q f v) → ((r : ℕ) → r ≢ q → (f : ℕ → ℕ → ℕ) → arms r f u ≡ arms r f v) → ((r : ℕ) (f : ℕ → ℕ → ℕ) → wins r f u ≡ wins r f v)
+    → ((f : ℕ → ℕ → ℕ) → arms q f u ≡ f item x + arms q f v) → ((r : ℕ) → r < shape.queues → r ≢ q → (f : ℕ → ℕ → ℕ) → arms r f u ≡ arms r f v) → ((r : ℕ) (f : ℕ → ℕ → ℕ) → wins r f u ≡ wins r f v)
     → TagsCounted arms wins shape tag views → TagsCounted arms wins shape tag' (set views k u)
 
 -- a tag is taken from the stream x to 0
 abbrev pub CountedWinLaw : Type 0 → Type 0
 CountedWinLaw V = (arms wins : ℕ → (ℕ → ℕ → ℕ) → V → ℕ) (shape : Shape) (tag tag' : ℕ → ℕ → ℕ) (views : List V) (k : ℕ) (v u : V) → get_elem? views k ≡ some v
     → (q item x : ℕ) → item < shape.items q → SetsWord shape tag tag' q item 0 → tag q item ≡ x → 0 < x
-    → ((r : ℕ) (f : ℕ → ℕ → ℕ) → arms r f u ≡ arms r f v) → ((f : ℕ → ℕ → ℕ) → wins q f u ≡ f item x + wins q f v) → ((r : ℕ) → r ≢ q → (f : ℕ → ℕ → ℕ) → wins r f u ≡ wins r f v)
+    → ((r : ℕ) (f : ℕ → ℕ → ℕ) → arms r f u ≡ arms r f v) → ((f : ℕ → ℕ → ℕ) → wins q f u ≡ f item x + wins q f v) → ((r : ℕ) → r < shape.queues → r ≢ q → (f : ℕ → ℕ → ℕ) → wins r f u ≡ wins r f v)
     → TagsCounted arms wins shape tag views → TagsCounted arms wins shape tag' (set views k u)
 
 -- ---- what holders know
@@ -88,36 +88,36 @@ WordsKnownStayLaw V says = (held : ℕ → (ℕ → ℕ) → V → ℕ) (shape :
     → WordsStay shape word word' → SaysNoMore held says v u → WordsKnown held says shape word views → WordsKnown held says shape word' (set views k u)
 
 -- an item comes, or is looked at: what is said of its word is so
-abbrev pub SaysOfOne : {V : Type 0} → (ℕ → (ℕ → ℕ) → V → ℕ) → (ℕ → V → ℕ → ℕ → Type 0) → ℕ → ℕ → V → V → Type 0
-SaysOfOne held says q one v u = (r item : ℕ) → (r ≢ q) ⊎ (item ≢ one) → Holds (held r) item u → Holds (held r) item v × ((x : ℕ) → says r u item x → says r v item x)
+abbrev pub SaysOfOne : {V : Type 0} → (ℕ → (ℕ → ℕ) → V → ℕ) → (ℕ → V → ℕ → ℕ → Type 0) → Shape → ℕ → ℕ → V → V → Type 0
+SaysOfOne held says shape q one v u = (r item : ℕ) → r < shape.queues → (r ≢ q) ⊎ (item ≢ one) → Holds (held r) item u → Holds (held r) item v × ((x : ℕ) → says r u item x → says r v item x)
 
 abbrev pub TagsKnownOneLaw : (V : Type 0) → (ℕ → V → ℕ → ℕ → Type 0) → Type 0
 TagsKnownOneLaw V says = (held : ℕ → (ℕ → ℕ) → V → ℕ) (shape : Shape) (tag tag' : ℕ → ℕ → ℕ) (views : List V) (k : ℕ) (v u : V) → get_elem? views k ≡ some v
-    → WordsStay shape tag tag' → (q one : ℕ) → SaysOfOne held says q one v u → ((x : ℕ) → says q u one x → (tag' q one ≡ x) ⊎ (tag' q one ≡ 0))
+    → WordsStay shape tag tag' → (q one : ℕ) → SaysOfOne held says shape q one v u → ((x : ℕ) → says q u one x → (tag' q one ≡ x) ⊎ (tag' q one ≡ 0))
     → TagsKnown held says shape tag views → TagsKnown held says shape tag' (set views k u)
 
 abbrev pub WordsKnownOneLaw : (V : Type 0) → (ℕ → V → ℕ → ℕ → Type 0) → Type 0
 WordsKnownOneLaw V says = (held : ℕ → (ℕ → ℕ) → V → ℕ) (shape : Shape) (word word' : ℕ → ℕ → ℕ) (views : List V) (k : ℕ) (v u : V) → get_elem? views k ≡ some v
-    → WordsStay shape word word' → (q one : ℕ) → SaysOfOne held says q one v u → ((x : ℕ) → says q u one x → word' q one ≡ x)
+    → WordsStay shape word word' → (q one : ℕ) → SaysOfOne held says shape q one v u → ((x : ℕ) → says q u one x → word' q one ≡ x)
     → WordsKnown held says shape word views → WordsKnown held says shape word' (set views k u)
 
 -- The holder of an item sets its word. `elsewhere q` is what items weigh that no seat holds.
 abbrev pub TagsKnownSetLaw : (V : Type 0) → (ℕ → V → ℕ → ℕ → Type 0) → Type 0
 TagsKnownSetLaw V says = (held : ℕ → (ℕ → ℕ) → V → ℕ) (elsewhere : ℕ → (ℕ → ℕ) → ℕ) (shape : Shape) (tag tag' : ℕ → ℕ → ℕ) (views : List V) (k : ℕ) (v u : V) → get_elem? views k ≡ some v
     → (q item x : ℕ) → q < shape.queues → item < shape.items q → SetsWord shape tag tag' q item x → Holds (held q) item v → Owned (held q) (elsewhere q) (shape.items q) views
-    → SaysOfOne held says q item v u → ((y : ℕ) → says q u item y → y ≡ x)
+    → SaysOfOne held says shape q item v u → ((y : ℕ) → says q u item y → y ≡ x)
     → TagsKnown held says shape tag views → TagsKnown held says shape tag' (set views k u)
 
 abbrev pub WordsKnownSetLaw : (V : Type 0) → (ℕ → V → ℕ → ℕ → Type 0) → Type 0
 WordsKnownSetLaw V says = (held : ℕ → (ℕ → ℕ) → V → ℕ) (elsewhere : ℕ → (ℕ → ℕ) → ℕ) (shape : Shape) (word word' : ℕ → ℕ → ℕ) (views : List V) (k : ℕ) (v u : V) → get_elem? views k ≡ some v
     → (q item x : ℕ) → q < shape.queues → item < shape.items q → SetsWord shape word word' q item x → Holds (held q) item v → Owned (held q) (elsewhere q) (shape.items q) views
-    → SaysOfOne held says q item v u → ((y : ℕ) → says q u item y → y ≡ x)
+    → SaysOfOne held says shape q item v u → ((y : ℕ) → says q u item y → y ≡ x)
     → WordsKnown held says shape word views → WordsKnown held says shape word' (set views k u)
 
 -- any seat takes a tag to 0
 abbrev pub TagsKnownWinLaw : (V : Type 0) → (ℕ → V → ℕ → ℕ → Type 0) → Type 0
 TagsKnownWinLaw V says = (held : ℕ → (ℕ → ℕ) → V → ℕ) (shape : Shape) (tag tag' : ℕ → ℕ → ℕ) (views : List V) (k : ℕ) (v u : V) → get_elem? views k ≡ some v
-    → (q item : ℕ) → SetsWord shape tag tag' q item 0 → SaysOfOne held says q item v u
+    → (q item : ℕ) → SetsWord shape tag tag' q item 0 → SaysOfOne held says shape q item v u
     → TagsKnown held says shape tag views → TagsKnown held says shape tag' (set views k u)
 
 -- ---- arms, of one queue

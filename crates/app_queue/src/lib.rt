@@ -5,11 +5,17 @@
 #![tactic(auto)]
 
 mod laws;
+mod layout;
+mod seat;
 mod side;
+mod view;
 
 pub use laws::{
     a_rings_step_leaves_the_others, an_arm_is_the_latest, an_item_got_is_fresh, arms_stay_placed,
     exact_words_stay_known, items_stay_owned, rings_stay, tags_are_armed, tags_are_won,
     tags_of_free_items_stay, tags_stay_counted, tags_stay_known,
 };
+pub use layout::Place;
+pub use seat::QueueSeat;
 pub use side::Side;
+pub use view::{ItemEvent, QueueView};
