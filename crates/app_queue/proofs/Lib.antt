@@ -1,5 +1,6 @@
 pub mod ForEach
 pub mod RingFrames
+pub mod HistoryFrames
 pub mod ItemFrames
 pub mod TagFrames
 pub mod KnownFrames
@@ -7,3 +8,7 @@ pub mod ArmFrames
 pub mod Places
 pub mod QueueViews
 pub mod QueueSteps
+pub mod ItemSteps
+pub mod QueueSeats
+pub mod FirstWords
+pub mod Turned

@@ -53,6 +53,13 @@ number_of (TagOf i) = i
 number_of (RunOf i) = i
 number_of (PartOf i) = i
 
+-- the ring of a ring's word
+abbrev pub side_of : Place → Side
+side_of (InRing side o) = side
+side_of (TagOf i) = Free
+side_of (RunOf i) = Free
+side_of (PartOf i) = Free
+
 module _ (n : ℕ) (words : List ℕ) (wide : length words ≡ word_count n) (x : ℕ) where
   pub word_here : (p : Place) → IsReal n p → word_of n (set words (word_at n p) x) p ≡ x
   word_here p real = let there : word_at n p < word_count n = word_there n p real in get_or-set_same words (word_at n p) x 0 (omega (arith, wide, there))

@@ -9,7 +9,7 @@ use Rattle.nncq_ring.specs.declared.view.RingEvent.TheVariants.{SawTail, SawHead
 use Rattle.app_queue.specs.declared.side.Side.{Side}
 use Rattle.app_queue.specs.declared.side.Side.TheVariants.{Free, Line}
 use Rattle.app_queue.specs.declared.view.ItemEvent.{ItemEvent}
-use Rattle.app_queue.specs.declared.view.ItemEvent.TheVariants.{Got, Won, Gone}
+use Rattle.app_queue.specs.declared.view.ItemEvent.TheVariants.{Taken, Won, Gone}
 use Rattle.app_queue.specs.declared.view.QueueView.{QueueView}
 use Rattle.app_queue.specs.FrameLaws.{SaysNoMore, SaysOfOne}
 use Rattle.app_queue.specs.Queues.{IsOther}
@@ -43,7 +43,7 @@ other_log Line Free e v ne = refl
 other_log Line Line e v ne = absurd (ne refl)
 
 -- an item that is got weighs nothing
-pub items_weigh : (g : ItemEvent → ℕ) → ((side : Side) (item place : ℕ) → g (Got side item place) ≡ 0) → (side : Side) (e : RingEvent) (items : List ItemEvent) → weigh g (items_after side e items) ≡ weigh g items
+pub items_weigh : (g : ItemEvent → ℕ) → ((side : Side) (item place : ℕ) → g (Taken side item place) ≡ 0) → (side : Side) (e : RingEvent) (items : List ItemEvent) → weigh g (items_after side e items) ≡ weigh g items
 items_weigh g none side (SawTail tail) items = refl
 items_weigh g none side (SawHead head) items = refl
 items_weigh g none side (SawEntry place entry) items = refl

@@ -6,11 +6,12 @@ use lib.ListN.{get_elem?}
 use Rattle.unit_model.specs.Sharing.{Owned, Holds}
 use Rattle.nncq_ring.specs.declared.view.RingEvent.{RingEvent}
 use Rattle.nncq_ring.specs.Notes.{RingPart}
+use Rattle.nncq_ring.specs.Rule.{Emptied}
 use Rattle.nncq_ring.specs.Words.{Words, IsWellFormed, logical_tail}
 use Rattle.app_queue.specs.declared.side.Side.{Side}
 use Rattle.app_queue.specs.declared.side.Side.TheVariants.{Free}
 use Rattle.app_queue.specs.Queues.{Shape, QueueWords, RingsStay, IsOther, OtherRingsStay, WordsStay, SetsWord}
-use Rattle.app_queue.specs.Parts.{RingParts, lines_weight, ItemsOwned, FreeUntagged, TagsCounted, TagsKnown, WordsKnown}
+use Rattle.app_queue.specs.Parts.{RingParts, HasMoved, RingHistories, lines_weight, ItemsOwned, FreeUntagged, TagsCounted, TagsKnown, WordsKnown}
 use Rattle.app_queue.specs.Arms.{Arm, ArmsOfQueue}
 
 -- ---- rings
@@ -30,6 +31,24 @@ RingStepLaw V = (log : ℕ → Side → V → List RingEvent) (shape : Shape) (r
 -- the rings are well formed
 abbrev pub AreWellFormed : Shape → (ℕ → Side → Words) → Type 0
 AreWellFormed shape ring = (q : ℕ) → q < shape.queues → (side : Side) → IsWellFormed (shape.items q) (ring q side)
+
+-- ---- histories of rings
+
+-- the frame
+abbrev pub HistoriesStayLaw : Type 0 → Type 0
+HistoriesStayLaw V = (pushes pops : ℕ → Side → (ℕ → ℕ → ℕ) → V → ℕ) (start : ℕ → Side → ℕ) (begun : ℕ → Side → List (ℕ × ℕ)) (shape : Shape) (ring ring' : ℕ → Side → Words) (views : List V) (k : ℕ) (v u : V) → get_elem? views k ≡ some v
+    → AreWellFormed shape ring → RingsStay shape ring ring'
+    → ((q : ℕ) (side : Side) (g : ℕ → ℕ → ℕ) → pushes q side g u ≡ pushes q side g v) → ((q : ℕ) (side : Side) (g : ℕ → ℕ → ℕ) → pops q side g u ≡ pops q side g v)
+    → RingHistories pushes pops start begun shape ring views → RingHistories pushes pops start begun shape ring' (set views k u)
+
+-- a step at one ring: what holds of it then, and the others as they were
+abbrev pub HistoryStepLaw : Type 0 → Type 0
+HistoryStepLaw V = (pushes pops : ℕ → Side → (ℕ → ℕ → ℕ) → V → ℕ) (start : ℕ → Side → ℕ) (begun : ℕ → Side → List (ℕ × ℕ)) (shape : Shape) (ring ring' : ℕ → Side → Words) (views : List V) (k : ℕ) (v u : V) → get_elem? views k ≡ some v
+    → AreWellFormed shape ring → (q : ℕ) (side : Side) → OtherRingsStay shape q side ring ring'
+    → ((r : ℕ) → r < shape.queues → (other : Side) → IsOther q side r other → (g : ℕ → ℕ → ℕ) → pushes r other g u ≡ pushes r other g v)
+    → ((r : ℕ) → r < shape.queues → (other : Side) → IsOther q side r other → (g : ℕ → ℕ → ℕ) → pops r other g u ≡ pops r other g v)
+    → HasMoved (pushes q side) (pops q side) (shape.items q) (begun q side) (ring' q side) (set views k u) → Emptied (pops q side) (start q side) (ring' q side) (set views k u)
+    → RingHistories pushes pops start begun shape ring views → RingHistories pushes pops start begun shape ring' (set views k u)
 
 -- ---- items
 

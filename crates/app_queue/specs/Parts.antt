@@ -2,11 +2,11 @@
 -- queue, so that any table's rule can be made of the same parts.
 use Rattle.std.specs.Prelude.{ℕ, ◌+◌, ◌^◌, ◌≡◌, ◌≤◌, ◌<◌, List}
 use Rattle.unit_model.specs.Sharing.{Owned}
-use Rattle.unit_model.specs.Weights.{is_number}
+use Rattle.unit_model.specs.Weights.{weigh, is_number}
 use Rattle.nncq_ring.specs.declared.view.RingEvent.{RingEvent}
 use Rattle.nncq_ring.specs.Notes.{RingPart}
-use Rattle.nncq_ring.specs.Rule.{line_weight}
-use Rattle.nncq_ring.specs.Words.{Words, logical_tail}
+use Rattle.nncq_ring.specs.Rule.{line_weight, Emptied}
+use Rattle.nncq_ring.specs.Words.{Words, logical_tail, line_of}
 use Rattle.tracking_word.specs.Parts.{Counted, Known, KnownExactly}
 use Rattle.app_queue.specs.declared.side.Side.{Side}
 use Rattle.app_queue.specs.declared.side.Side.TheVariants.{Free, Line}
@@ -16,6 +16,16 @@ use Rattle.app_queue.specs.Queues.{Shape}
 pub record RingParts {V : Type 0} (log : ℕ → Side → V → List RingEvent) (shape : Shape) (ring : ℕ → Side → Words) (views : List V) : Type 0 where
   pub rings : (q : ℕ) → q < shape.queues → (side : Side) → RingPart (shape.items q) (log q side) (ring q side) views
   pub worn : (q : ℕ) → q < shape.queues → (side : Side) → logical_tail (shape.items q) (ring q side) ≤ 2 ^ 62
+
+-- each pair of a place and an item that was put in the ring, or stood in it at first, was taken once, or stands in it once
+abbrev pub HasMoved : {V : Type 0} → (pushes pops : (ℕ → ℕ → ℕ) → V → ℕ) → ℕ → List (ℕ × ℕ) → Words → List V → Type 0
+HasMoved pushes pops n begun w views = (g : ℕ → ℕ → ℕ) → weigh (pushes g) views + weigh (λ e. g e.0 e.1) begun ≡ weigh (pops g) views + weigh (λ e. g e.0 e.1) (line_of n w)
+
+-- Histories of rings: what was put in each, or stood in it at first, was taken or stands in it; and each place from its start up
+-- to its head was emptied once, and no other. So the places of each ring are used in order, from its start on.
+pub record RingHistories {V : Type 0} (pushes pops : ℕ → Side → (ℕ → ℕ → ℕ) → V → ℕ) (start : ℕ → Side → ℕ) (begun : ℕ → Side → List (ℕ × ℕ)) (shape : Shape) (ring : ℕ → Side → Words) (views : List V) : Type 0 where
+  pub moved : (q : ℕ) → q < shape.queues → (side : Side) → HasMoved (pushes q side) (pops q side) (shape.items q) (begun q side) (ring q side) views
+  pub emptied : (q : ℕ) → q < shape.queues → (side : Side) → Emptied (pops q side) (start q side) (ring q side) views
 
 -- what the items in both rings of a queue weigh
 abbrev pub lines_weight : ℕ → (Side → Words) → (ℕ → ℕ) → ℕ

@@ -6,11 +6,11 @@ use Rattle.unit_model.specs.Weights.{weigh}
 use Rattle.nncq_ring.specs.declared.view.RingEvent.{RingEvent}
 use Rattle.nncq_ring.specs.declared.view.RingEvent.TheVariants.{SawTail, SawHead, SawEntry, Pushed, Popped}
 use Rattle.nncq_ring.specs.Turns.{IsLook}
-use Rattle.nncq_ring.specs.Views.{held_after}
+use Rattle.nncq_ring.specs.Views.{held_after, push_weight, pop_weight}
 use Rattle.app_queue.specs.declared.side.Side.{Side}
 use Rattle.app_queue.specs.declared.side.Side.TheVariants.{Free, Line}
 use Rattle.app_queue.specs.declared.view.ItemEvent.{ItemEvent}
-use Rattle.app_queue.specs.declared.view.ItemEvent.TheVariants.{Got, RunNoted, PartNoted, TagNoted, Armed, Won, Gone}
+use Rattle.app_queue.specs.declared.view.ItemEvent.TheVariants.{Taken, RunNoted, PartNoted, TagNoted, Armed, Won, Gone}
 use Rattle.app_queue.specs.declared.view.QueueView.{QueueView}
 
 -- ---- what the events say of an item since the seat got it
@@ -23,7 +23,7 @@ tag_got Line = None
 -- The tag that the seat last saw or made.
 abbrev pub last_tag : ℕ → List ItemEvent → Option ℕ
 last_tag item [] = None
-last_tag item (Got side i place ∷ es) = cond (i == item) (tag_got side) (last_tag item es)
+last_tag item (Taken side i place ∷ es) = cond (i == item) (tag_got side) (last_tag item es)
 last_tag item (RunNoted i x ∷ es) = last_tag item es
 last_tag item (PartNoted i x ∷ es) = last_tag item es
 last_tag item (TagNoted i x ∷ es) = cond (i == item) (Some x) (last_tag item es)
@@ -34,7 +34,7 @@ last_tag item (Gone i stream found ∷ es) = cond (i == item) (Some found) (last
 -- the run, and the part
 abbrev pub last_run : ℕ → List ItemEvent → Option ℕ
 last_run item [] = None
-last_run item (Got side i place ∷ es) = cond (i == item) None (last_run item es)
+last_run item (Taken side i place ∷ es) = cond (i == item) None (last_run item es)
 last_run item (RunNoted i x ∷ es) = cond (i == item) (Some x) (last_run item es)
 last_run item (PartNoted i x ∷ es) = last_run item es
 last_run item (TagNoted i x ∷ es) = last_run item es
@@ -44,7 +44,7 @@ last_run item (Gone i stream found ∷ es) = last_run item es
 
 abbrev pub last_part : ℕ → List ItemEvent → Option ℕ
 last_part item [] = None
-last_part item (Got side i place ∷ es) = cond (i == item) None (last_part item es)
+last_part item (Taken side i place ∷ es) = cond (i == item) None (last_part item es)
 last_part item (RunNoted i x ∷ es) = last_part item es
 last_part item (PartNoted i x ∷ es) = cond (i == item) (Some x) (last_part item es)
 last_part item (TagNoted i x ∷ es) = last_part item es
@@ -55,7 +55,7 @@ last_part item (Gone i stream found ∷ es) = last_part item es
 -- the seat armed the item since it got it
 abbrev pub is_armed : ℕ → List ItemEvent → Bool
 is_armed item [] = false
-is_armed item (Got side i place ∷ es) = cond (i == item) false (is_armed item es)
+is_armed item (Taken side i place ∷ es) = cond (i == item) false (is_armed item es)
 is_armed item (RunNoted i x ∷ es) = is_armed item es
 is_armed item (PartNoted i x ∷ es) = is_armed item es
 is_armed item (TagNoted i x ∷ es) = is_armed item es
@@ -64,7 +64,7 @@ is_armed item (Won i stream ∷ es) = is_armed item es
 is_armed item (Gone i stream found ∷ es) = is_armed item es
 
 abbrev pub arm_weight : (ℕ → ℕ → ℕ) → ItemEvent → ℕ
-arm_weight f (Got side i place) = 0
+arm_weight f (Taken side i place) = 0
 arm_weight f (RunNoted i x) = 0
 arm_weight f (PartNoted i x) = 0
 arm_weight f (TagNoted i x) = 0
@@ -73,7 +73,7 @@ arm_weight f (Won i stream) = 0
 arm_weight f (Gone i stream found) = 0
 
 abbrev pub win_weight : (ℕ → ℕ → ℕ) → ItemEvent → ℕ
-win_weight f (Got side i place) = 0
+win_weight f (Taken side i place) = 0
 win_weight f (RunNoted i x) = 0
 win_weight f (PartNoted i x) = 0
 win_weight f (TagNoted i x) = 0
@@ -95,6 +95,13 @@ log_at Line v = v.line
 
 abbrev pub log_of : ℕ → Side → QueueView → List RingEvent
 log_of q side v = log_at side v
+
+-- what the places with items weigh that were filled in a ring, and that were emptied
+abbrev pub pushes_of : ℕ → Side → (ℕ → ℕ → ℕ) → QueueView → ℕ
+pushes_of q side g v = weigh (push_weight g) (log_at side v)
+
+abbrev pub pops_of : ℕ → Side → (ℕ → ℕ → ℕ) → QueueView → ℕ
+pops_of q side g v = weigh (pop_weight g) (log_at side v)
 
 abbrev pub arms_of : ℕ → (ℕ → ℕ → ℕ) → QueueView → ℕ
 arms_of q f v = weigh (arm_weight f) v.items + weigh (arm_weight f) v.joined
@@ -148,7 +155,7 @@ items_after side (SawTail tail) items = items
 items_after side (SawHead head) items = items
 items_after side (SawEntry place entry) items = items
 items_after side (Pushed place item) items = items
-items_after side (Popped place item) items = Got side item place ∷ items
+items_after side (Popped place item) items = Taken side item place ∷ items
 
 abbrev pub does : Side → RingEvent → QueueView → QueueView
 does side e v = record { held = held_after e v.held; free = note_at side Free e v.free; line = note_at side Line e v.line; items = items_after side e v.items; joined = v.joined }

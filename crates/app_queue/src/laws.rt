@@ -1,7 +1,7 @@
 //! What steps do to the parts of a rule of queues. Each function does nothing: its contract is the law, here at views that are
 //! numbers and say by any function what they say; the lemmas have it at views of any type.
 ghost use Rattle.std.specs.Prelude.{ℕ, ◌≡◌, Option, Some};
-ghost use Rattle.app_queue.specs.FrameLaws.{ArmsArmLaw, ArmsGetLaw, ArmsStayLaw, CountedArmLaw, CountedStayLaw, CountedWinLaw, FreeStayLaw, ItemsMoveLaw, ItemsStayLaw, RingStepLaw, RingsStayLaw, TagsKnownOneLaw, TagsKnownSetLaw, TagsKnownStayLaw, TagsKnownWinLaw, WordsKnownOneLaw, WordsKnownSetLaw, WordsKnownStayLaw};
+ghost use Rattle.app_queue.specs.FrameLaws.{ArmsArmLaw, ArmsGetLaw, ArmsStayLaw, CountedArmLaw, CountedStayLaw, CountedWinLaw, FreeStayLaw, HistoriesStayLaw, HistoryStepLaw, ItemsMoveLaw, ItemsStayLaw, RingStepLaw, RingsStayLaw, TagsKnownOneLaw, TagsKnownSetLaw, TagsKnownStayLaw, TagsKnownWinLaw, WordsKnownOneLaw, WordsKnownSetLaw, WordsKnownStayLaw};
 
 /// Where no ring changes and nothing is noted of one, what is said of rings stays.
 pub fn rings_stay()
@@ -11,6 +11,12 @@ pub fn rings_stay()
 /// A step at one ring leaves what is said of the others.
 pub fn a_rings_step_leaves_the_others()
     ensures { RingStepLaw ℕ }
+{}
+
+/// What was put in a ring, or stood in it at first, was taken or stands in it, also after a step at one ring.
+pub fn histories_stay()
+    ensures stay { HistoriesStayLaw ℕ }
+    ensures step { HistoryStepLaw ℕ }
 {}
 
 /// Each item stays in one place, also where a step at one queue moves one of its items.

@@ -6,7 +6,7 @@ use std::collections::LinkedList;
 /// What a seat did to an item, or was told of it.
 pub enum ItemEvent {
     /// The seat got the item from this ring, at this place.
-    Got(Side, u32, u64),
+    Taken(Side, u32, u64),
     /// The item's run was this, or became it.
     RunNoted(u32, u64),
     /// The item's part was this, or became it.
