@@ -11,4 +11,5 @@ pub mod QueueSteps
 pub mod ItemSteps
 pub mod QueueSeats
 pub mod FirstWords
+pub mod HandLaws
 pub mod Turned

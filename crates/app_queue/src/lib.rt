@@ -33,3 +33,6 @@ pub use rule_laws::{each_item_is_in_one_place, wins_match_arms, words_stand_apar
 pub use seat::QueueSeat;
 pub use side::Side;
 pub use view::{ItemEvent, QueueView};
+
+#[cfg(test)]
+mod tests;

@@ -19,6 +19,8 @@ impl AppQueue {
         requires own { BelongsTo seat.old self.now }
         ensures own { BelongsTo seat.new self.now }
         ensures hand { HandAfterPop side result (knows seat.old) (knows seat.new) }
+        ensures inside { (place item : ℕ) → result ≡ PopTurn.Got place item
+            → item < items_of self.now }
         ensures got { (place item : ℕ) → result ≡ PopTurn.Got place item
             → Tells (makes side) (knows seat.old) (knows seat.new)
             (IsGot (items_of self.now) (log_at side (knows seat.old)) place item) }
@@ -57,6 +59,8 @@ impl AppQueue {
         requires own { BelongsTo seat.old self.now }
         ensures own { BelongsTo seat.new self.now }
         ensures hand { HandAfterPop Free result (knows seat.old) (knows seat.new) }
+        ensures inside { (place item : ℕ) → result ≡ PopTurn.Got place item
+            → item < items_of self.now }
         ensures got { (place item : ℕ) → result ≡ PopTurn.Got place item
             → Tells (makes Free) (knows seat.old) (knows seat.new)
             (IsGot (items_of self.now) (knows seat.old).free place item) }
@@ -75,6 +79,8 @@ impl AppQueue {
         requires own { BelongsTo seat.old self.now }
         ensures own { BelongsTo seat.new self.now }
         ensures hand { HandAfterPop Line result (knows seat.old) (knows seat.new) }
+        ensures inside { (place item : ℕ) → result ≡ PopTurn.Got place item
+            → item < items_of self.now }
         ensures got { (place item : ℕ) → result ≡ PopTurn.Got place item
             → Tells (makes Line) (knows seat.old) (knows seat.new)
             (IsGot (items_of self.now) (knows seat.old).line place item) }
