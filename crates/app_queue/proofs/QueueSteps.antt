@@ -16,7 +16,7 @@ use Rattle.nncq_ring.specs.Rule.{line_weight, Emptied}
 use Rattle.nncq_ring.specs.Shown.{ShowsFilled}
 use Rattle.nncq_ring.specs.Views.{push_weight, pop_weight}
 use Rattle.nncq_ring.specs.Words.{Words, entry_of, line_of, SetsEntry}
-use Rattle.nncq_ring.proofs.RingStep.{RingAfter, tail_below, head_below, looked, was_tail, was_head, entry_noted, was_empty, near, put, later_entry, took, later_head, helped, past}
+use Rattle.nncq_ring.proofs.RingStep.{RingAfter, tail_below, head_below, looked, was_tail, was_head, was_entry, entry_noted, was_empty, near, put, later_entry, took, later_head, helped, past}
 use Rattle.nncq_ring.proofs.Sharing.{emptied_stays, emptied_one}
 use Rattle.app_queue.specs.declared.layout.Place.{Place}
 use Rattle.app_queue.specs.declared.layout.Place.TheVariants.{InRing, TagOf}
@@ -234,6 +234,7 @@ module _ (key : ℕ × ℕ) (id : ℕ) (v : QueueView) (carried : List (ℕ × �
       refl,
       record {
         view = refl;
+        was = was_entry QueueView key.0 (log_at side) held_by (in_other side) (ring_now side) s.views id v at (holds.rings.rings 0 first side) (holds.rings.worn 0 first side) (owned_at side) place;
         near = λ shown. near QueueView key.0 (log_at side) held_by (in_other side) (ring_now side) s.views id v at (holds.rings.rings 0 first side) (holds.rings.worn 0 first side) (owned_at side) place shown;
         none = λ shown before. was_empty QueueView key.0 (log_at side) held_by (in_other side) (ring_now side) s.views id v at (holds.rings.rings 0 first side) (holds.rings.worn 0 first side) (owned_at side) place shown before;
       },

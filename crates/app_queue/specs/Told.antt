@@ -5,7 +5,7 @@ use mathlib.Core.Option.{some}
 use lib.ListN.{get_elem?}
 use Rattle.unit_model.specs.Sharing.{Holds}
 use Rattle.nncq_ring.specs.declared.view.RingEvent.TheVariants.{SawTail, SawHead, SawEntry, Pushed, Popped}
-use Rattle.nncq_ring.specs.Moments.{PutLast, TookFirst, WasEmpty, WasHead, WasTail}
+use Rattle.nncq_ring.specs.Moments.{PutLast, TookFirst, WasEmpty, WasEntry, WasHead, WasTail}
 use Rattle.nncq_ring.specs.Shown.{SawPlace}
 use Rattle.app_queue.specs.declared.side.Side.{Side}
 use Rattle.app_queue.specs.declared.view.ItemEvent.{ItemEvent}
@@ -30,6 +30,7 @@ pub record SeesHead (n : ℕ) (side : Side) (v : QueueView) (found : ℕ) (u : Q
 -- the entry at the place's slot was loaded
 pub record SeesEntry (n : ℕ) (side : Side) (place : ℕ) (v : QueueView) (found : ℕ) (u : QueueView) : Type 0 where
   pub view : makes side (SawEntry place found) v u
+  pub was : WasEntry n place found (log_at side v)
   pub near : SawPlace place (log_at side v) → place / n ≤ found / n + 1
   pub none : get_elem? (log_at side v) 0 ≡ some (SawHead place) → found / n + 1 ≡ place / n → WasEmpty n place (log_at side v)
 

@@ -19,4 +19,4 @@ full_so (Full seen) holds holds' so it = so seen it
 
 -- after a load of the open word a search has begun
 pub begins : (opened : ℕ) (log : List MapEvent) → Begins opened (SawOpen opened ∷ log)
-begins opened log = record { count = refl; gained = λ chunk. refl; seen = λ chunk. refl }
+begins opened log = record { count = refl; gained = λ chunk. refl; seen = λ chunk. refl; looked = λ chunk. refl }

@@ -8,4 +8,3 @@ pub mod GainLaws
 pub mod WordChanges
 pub mod ClaimLaws
 pub mod Claiming
-mod LastWords

@@ -71,3 +71,4 @@ pub record Begins (opened : ℕ) (log : List MapEvent) : Type 0 where
   pub count : open_seen log ≡ opened
   pub gained : (chunk : ℕ) → was_gained log chunk ≡ false
   pub seen : (chunk : ℕ) → seen_free log chunk ≡ false
+  pub looked : (chunk : ℕ) → was_looked log chunk ≡ false

@@ -13,4 +13,3 @@ pub mod Starts
 pub mod Turning
 pub mod Looking
 pub mod Holding
-mod LastWords

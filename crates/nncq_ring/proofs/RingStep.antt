@@ -12,7 +12,7 @@ use Rattle.nncq_ring.specs.declared.view.RingEvent.{RingEvent}
 use Rattle.nncq_ring.specs.declared.view.RingEvent.TheVariants.{SawTail, SawHead, SawEntry, Pushed, Popped}
 use Rattle.nncq_ring.specs.Words.{Words, entry_of, logical_tail, line_of, SetsEntry, SetsTail, SetsHead}
 use Rattle.nncq_ring.specs.Later.{Later}
-use Rattle.nncq_ring.specs.Moments.{Meets, PutLast, TookFirst, WasEmpty, WasHead, WasTail}
+use Rattle.nncq_ring.specs.Moments.{Meets, PutLast, TookFirst, WasEmpty, WasEntry, WasHead, WasTail}
 use Rattle.nncq_ring.specs.Notes.{EntryNoted, Noted, RingPart}
 use Rattle.nncq_ring.specs.Rule.{line_weight}
 use Rattle.nncq_ring.specs.Shown.{SawPlace, ShowsFilled}
@@ -56,6 +56,9 @@ module _ (V : Type 0) (n : ℕ) (log : V → List RingEvent) (held : (ℕ → �
 
   pub was_head : WasHead n w.head (log v)
   was_head = record { words = w; met = met; head = refl }
+
+  pub was_entry : (place : ℕ) → WasEntry n place (w.entry (place % n)) (log v)
+  was_entry place = record { words = w; met = met; entry = refl }
 
   pub entry_noted : (place : ℕ) → EntryNoted n w place (w.entry (place % n))
   entry_noted place = look_noted n place w part.fine

@@ -23,7 +23,7 @@ use Rattle.nncq_ring.specs.Views.{held_by, events_of, push_weight, pop_weight, p
 use Rattle.nncq_ring.specs.Rule.{RingHolds, Moved, Emptied, line_weight, SeesTail, SeesHead, SeesEntry, Puts, Takes, Helps}
 use Rattle.nncq_ring.proofs.Noting.{begun_stays}
 use Rattle.nncq_ring.proofs.RingParts.{part_splits, part_joins}
-use Rattle.nncq_ring.proofs.RingStep.{RingAfter, tail_below, head_below, looked, was_tail, was_head, entry_noted, was_empty, near, put, later_entry, took, later_head, helped, past}
+use Rattle.nncq_ring.proofs.RingStep.{RingAfter, tail_below, head_below, looked, was_tail, was_head, was_entry, entry_noted, was_empty, near, put, later_entry, took, later_head, helped, past}
 use Rattle.nncq_ring.proofs.RingWords.{sets_entry, sets_head, sets_tail}
 use Rattle.nncq_ring.proofs.Sharing.{moved_stays, moved_moves, emptied_stays, emptied_one}
 
@@ -129,6 +129,7 @@ module _ (key : ℕ × ℕ) (slots id : ℕ) (v : RingView) (carried : List (ℕ
         (
           refl,
           refl,
+          was_entry RingView key.0 events_of held_by none_else now s.views id v at holds.part holds.worn owned place,
           λ shown. near RingView key.0 events_of held_by none_else now s.views id v at holds.part holds.worn owned place shown,
           λ shown before. was_empty RingView key.0 events_of held_by none_else now s.views id v at holds.part holds.worn owned place shown before,
         ),

@@ -4,7 +4,7 @@ use mathlib.Core.Option.{some}
 use lib.ListN.{get_elem?}
 use Rattle.nncq_ring.specs.declared.view.RingEvent.{RingEvent}
 use Rattle.nncq_ring.specs.declared.view.RingEvent.TheVariants.{SawTail, SawHead, SawEntry, Pushed, Popped}
-use Rattle.nncq_ring.specs.Moments.{PutLast, TookFirst, WasEmpty, WasHead, WasTail}
+use Rattle.nncq_ring.specs.Moments.{PutLast, TookFirst, WasEmpty, WasEntry, WasHead, WasTail}
 use Rattle.nncq_ring.specs.Shown.{ShowsFilled}
 use Rattle.nncq_ring.specs.Turns.{Chain, Tells, tail_looks, head_looks, IsDone, IsPushLost, IsWorn, IsGot, IsEmpty, IsPopLost}
 
@@ -27,9 +27,12 @@ module _ (V : Type 0) (log : V → List RingEvent) (steps : RingEvent → V → 
   worn n tail v u high was first = (SawTail tail ∷ [], record { high = high; was = was; told = refl }, (v, refl, first))
 
   -- ---- a push: the tail was seen, and then the entry
-  module _ (n tail entry : ℕ) (fresh : tail < 2 ^ 62) (v u w : V) (was : WasTail n tail (log v)) (first : steps (SawTail tail) v u) (second : steps (SawEntry tail entry) u w) where
+  module _ (n tail entry : ℕ) (fresh : tail < 2 ^ 62) (v u w : V) (was : WasTail n tail (log v)) (first : steps (SawTail tail) v u) (second : steps (SawEntry tail entry) u w) (was_entry : WasEntry n tail entry (log u)) where
     looks : Chain steps (tail_looks tail entry) v w
     looks = (u, (v, refl, first), second)
+
+    seen : WasEntry n tail entry (SawTail tail ∷ log v)
+    seen = subst (WasEntry n tail entry) (logs (SawTail tail) v u first) was_entry
 
     pub done : (value : ℕ) (x y : V) → entry / n + 1 ≡ tail / n → (steps (Pushed tail value) w x) × PutLast n tail value (log w) → (t : ℕ) × (tail < t) × (steps (SawTail t) x y) → Tells steps v y (IsDone n value (log v) tail)
     done value x y before won past =
@@ -42,24 +45,27 @@ module _ (V : Type 0) (log : V → List RingEvent) (steps : RingEvent → V → 
     pub lost_filled : (y : V) → entry / n ≡ tail / n → (t : ℕ) × (tail < t) × (steps (SawTail t) w y) → Tells steps v y (IsPushLost n (log v) tail entry)
     lost_filled y has past = (
       SawTail past.0 ∷ tail_looks tail entry,
-      record { fresh = fresh; was = was; cause = inl (has, past.0, past.1, refl) },
+      record { fresh = fresh; was = was; seen = seen; cause = inl (has, past.0, past.1, refl) },
       (w, looks, past.2),
     )
 
     pub lost_later : tail / n < entry / n → Tells steps v w (IsPushLost n (log v) tail entry)
-    lost_later later = (tail_looks tail entry, record { fresh = fresh; was = was; cause = inr (inl (later, refl)) }, looks)
+    lost_later later = (tail_looks tail entry, record { fresh = fresh; was = was; seen = seen; cause = inr (inl (later, refl)) }, looks)
 
     pub lost_exchange : (found : ℕ) (x : V) → entry / n + 1 ≡ tail / n → found ≢ entry → (steps (SawEntry tail found) w x) × (tail / n ≤ found / n) → Tells steps v x (IsPushLost n (log v) tail entry)
     lost_exchange found x before other missed = (
       SawEntry tail found ∷ tail_looks tail entry,
-      record { fresh = fresh; was = was; cause = inr (inr (before, found, other, missed.1, refl)) },
+      record { fresh = fresh; was = was; seen = seen; cause = inr (inr (before, found, other, missed.1, refl)) },
       (w, looks, missed.0),
     )
 
   -- ---- a pop: the head was seen, and then the entry
-  module _ (n head entry : ℕ) (v u w : V) (was : WasHead n head (log v)) (first : steps (SawHead head) v u) (second : steps (SawEntry head entry) u w) where
+  module _ (n head entry : ℕ) (v u w : V) (was : WasHead n head (log v)) (first : steps (SawHead head) v u) (second : steps (SawEntry head entry) u w) (was_entry : WasEntry n head entry (log u)) where
     pop_looks : Chain steps (head_looks head entry) v w
     pop_looks = (u, (v, refl, first), second)
+
+    pop_seen : WasEntry n head entry (SawHead head ∷ log v)
+    pop_seen = subst (WasEntry n head entry) (logs (SawHead head) v u first) was_entry
 
     pub got : (x : V) → entry / n ≡ head / n → (steps (Popped head (entry % n)) w x) × TookFirst n head (entry % n) (log w) → Tells steps v x (IsGot n (log v) head (entry % n))
     got x full won =
@@ -70,18 +76,18 @@ module _ (V : Type 0) (log : V → List RingEvent) (steps : RingEvent → V → 
         )
 
     pub pop_lost_later : head / n < entry / n → Tells steps v w (IsPopLost n (log v) head entry)
-    pop_lost_later later = (head_looks head entry, record { was = was; cause = inl (later, refl) }, pop_looks)
+    pop_lost_later later = (head_looks head entry, record { was = was; seen = pop_seen; cause = inl (later, refl) }, pop_looks)
 
     pub pop_lost_exchange : (found : ℕ) (x : V) → entry / n ≡ head / n → (steps (SawHead found) w x) × (head < found) → Tells steps v x (IsPopLost n (log v) head entry)
     pop_lost_exchange found x full missed = (
       SawHead found ∷ head_looks head entry,
-      record { was = was; cause = inr (full, found, missed.1, refl) },
+      record { was = was; seen = pop_seen; cause = inr (full, found, missed.1, refl) },
       (w, pop_looks, missed.0),
     )
 
     pub empty : entry / n + 1 ≡ head / n → WasEmpty n head (log u) → Tells steps v w (IsEmpty n (log v) head entry)
     empty before line = (
       head_looks head entry,
-      record { before = before; was = subst (WasEmpty n head) (logs (SawHead head) v u first) line; told = refl },
+      record { before = before; seen = pop_seen; was = subst (WasEmpty n head) (logs (SawHead head) v u first) line; told = refl },
       pop_looks,
     )

@@ -21,6 +21,12 @@ pub record WasHead (n place : ℕ) (log : List RingEvent) : Type 0 where
   pub met : Meets n log words
   pub head : words.head ≡ place
 
+-- The entry at the place's slot was this.
+pub record WasEntry (n place found : ℕ) (log : List RingEvent) : Type 0 where
+  pub words : Words
+  pub met : Meets n log words
+  pub entry : words.entry (place % n) ≡ found
+
 -- The place was the logical tail, and the step put the value last in the line, at this place.
 pub record PutLast (n place value : ℕ) (log : List RingEvent) : Type 0 where
   pub before : Words

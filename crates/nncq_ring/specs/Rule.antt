@@ -12,7 +12,7 @@ use Rattle.nncq_ring.specs.Words.{Words, logical_tail, line_of}
 use Rattle.nncq_ring.specs.Later.{Begun}
 use Rattle.nncq_ring.specs.Notes.{RingPart}
 use Rattle.nncq_ring.specs.RingWords.{ring_words}
-use Rattle.nncq_ring.specs.Moments.{PutLast, TookFirst, WasEmpty, WasHead, WasTail}
+use Rattle.nncq_ring.specs.Moments.{PutLast, TookFirst, WasEmpty, WasEntry, WasHead, WasTail}
 use Rattle.nncq_ring.specs.Shown.{SawPlace}
 use Rattle.nncq_ring.specs.Views.{held_by, events_of, pushes_of, pops_of, makes}
 
@@ -51,7 +51,7 @@ SeesHead n st m found m' = (m'.1 ≡ m.1) × (found ≤ 2 ^ 62) × makes (SawHea
 -- The entry at the place was loaded. Where the tail or the head was seen to be this place, its cycle is at least the one before.
 -- Where the head was, the cycle before shows that the line is empty.
 abbrev pub SeesEntry : ℕ → ℕ → {S : Type 0} → Step S → Me S RingView → ℕ → Me S RingView → Type 0
-SeesEntry n place st m found m' = (m'.1 ≡ m.1) × makes (SawEntry place found) m.0 m'.0 × (SawPlace place (events_of m.0) → place / n ≤ found / n + 1)
+SeesEntry n place st m found m' = (m'.1 ≡ m.1) × makes (SawEntry place found) m.0 m'.0 × WasEntry n place found (events_of m.0) × (SawPlace place (events_of m.0) → place / n ≤ found / n + 1)
     × (get_elem? (events_of m.0) 0 ≡ some (SawHead place) → found / n + 1 ≡ place / n → WasEmpty n place (events_of m.0))
 
 -- the value was put at the place, or the exchange found another entry there, of the place's cycle or a later one

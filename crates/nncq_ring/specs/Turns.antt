@@ -3,7 +3,7 @@
 use Rattle.std.specs.Prelude.{ℕ, ◌+◌, ◌/◌, ◌%◌, ◌^◌, ◌≡◌, ◌≢◌, ◌≤◌, ◌<◌, ◌⊎◌, List, [], ◌∷◌}
 use Rattle.nncq_ring.specs.declared.view.RingEvent.{RingEvent}
 use Rattle.nncq_ring.specs.declared.view.RingEvent.TheVariants.{SawTail, SawHead, SawEntry, Pushed, Popped}
-use Rattle.nncq_ring.specs.Moments.{PutLast, TookFirst, WasEmpty, WasHead, WasTail}
+use Rattle.nncq_ring.specs.Moments.{PutLast, TookFirst, WasEmpty, WasEntry, WasHead, WasTail}
 
 -- ---- events
 
@@ -36,11 +36,12 @@ pub record IsDone (n value : ℕ) (log : List RingEvent) (place : ℕ) (events :
   pub past : place < tail
   pub told : events ≡ SawTail tail ∷ Pushed place value ∷ tail_looks place entry
 
--- Lost: the place was the tail. The slot was filled already, and then the tail is past the place; or the slot has a later
+-- Lost: the place was the tail, and after that look the entry was that of its slot. The slot was filled already, and then the tail is past the place; or the slot has a later
 -- cycle, which shows that the head is past the place; or the exchange found another entry, of the place's cycle or a later one.
 pub record IsPushLost (n : ℕ) (log : List RingEvent) (place entry : ℕ) (events : List RingEvent) : Type 0 where
   pub fresh : place < 2 ^ 62
   pub was : WasTail n place log
+  pub seen : WasEntry n place entry (SawTail place ∷ log)
   pub cause : ((entry / n ≡ place / n) × (tail : ℕ) × (place < tail) × (events ≡ SawTail tail ∷ tail_looks place entry))
       ⊎ (((place / n < entry / n) × (events ≡ tail_looks place entry))
       ⊎ ((entry / n + 1 ≡ place / n) × (found : ℕ) × (found ≢ entry) × (place / n ≤ found / n) × (events ≡ SawEntry place found ∷ tail_looks place entry)))
@@ -61,16 +62,18 @@ pub record IsGot (n : ℕ) (log : List RingEvent) (place value : ℕ) (events : 
   pub first : TookFirst n place value (SawEntry place entry ∷ SawHead place ∷ log)
   pub told : events ≡ Popped place value ∷ head_looks place entry
 
--- Empty: the slot at the head had the cycle before, so the line was empty at that look.
+-- Empty: the slot at the head had this entry, of the cycle before, so the line was empty at that look.
 pub record IsEmpty (n : ℕ) (log : List RingEvent) (place entry : ℕ) (events : List RingEvent) : Type 0 where
   pub before : entry / n + 1 ≡ place / n
+  pub seen : WasEntry n place entry (SawHead place ∷ log)
   pub was : WasEmpty n place (SawHead place ∷ log)
   pub told : events ≡ head_looks place entry
 
--- Lost: the place was the head. The slot has a later cycle, which shows that the head is past the place; or the exchange found
+-- Lost: the place was the head, and after that look the entry was that of its slot. The slot has a later cycle, which shows that the head is past the place; or the exchange found
 -- a later head.
 pub record IsPopLost (n : ℕ) (log : List RingEvent) (place entry : ℕ) (events : List RingEvent) : Type 0 where
   pub was : WasHead n place log
+  pub seen : WasEntry n place entry (SawHead place ∷ log)
   pub cause : ((place / n < entry / n) × (events ≡ head_looks place entry))
       ⊎ ((entry / n ≡ place / n) × (found : ℕ) × (place < found) × (events ≡ SawHead found ∷ head_looks place entry))
 

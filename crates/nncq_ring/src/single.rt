@@ -2,7 +2,7 @@
 ghost use Rattle.std.specs.Prelude.{ℕ, ◌≡◌, ◌≢◌, ◌≤◌, ◌<◌, ◌+◌, ◌^◌, ◌/◌, ◌%◌, List, ◌∷◌};
 ghost use mathlib.Core.Option.{some};
 ghost use lib.ListN.{get_elem?};
-ghost use Rattle.nncq_ring.specs.Moments.{PutLast, TookFirst, WasEmpty, WasHead, WasTail};
+ghost use Rattle.nncq_ring.specs.Moments.{PutLast, TookFirst, WasEmpty, WasEntry, WasHead, WasTail};
 ghost use Rattle.nncq_ring.specs.Shown.{SawPlace, ShowsFilled};
 ghost use Rattle.nncq_ring.specs.Turns.{IsLook};
 ghost use Rattle.nncq_ring.specs.declared.view.RingEvent.{RingEvent};
@@ -57,6 +57,7 @@ pub trait RingSteps {
     fn see_entry(&self, seat: &mut Self::Seat, place: u64) -> u64
         requires own { belongs seat.old self.now }
         ensures own { belongs seat.new self.now }
+        ensures was { WasEntry (slots self.now) place result (events self.now (knows seat.old)) }
         ensures near { SawPlace place (events self.now (knows seat.old))
             → place / slots self.now ≤ result / slots self.now + 1 }
         ensures empty { get_elem? (events self.now (knows seat.old)) 0 ≡ some (SawHead place)

@@ -10,7 +10,7 @@ impl Ring {
     ghost use mathlib.Core.Option.{some};
     ghost use lib.ListN.{get_elem?};
     ghost use Rattle.unit_model.specs.Sharing.{Holds};
-    ghost use Rattle.nncq_ring.specs.Moments.{PutLast, TookFirst, WasEmpty, WasHead, WasTail};
+    ghost use Rattle.nncq_ring.specs.Moments.{PutLast, TookFirst, WasEmpty, WasEntry, WasHead, WasTail};
     ghost use Rattle.nncq_ring.specs.Rule.{IsPast};
     ghost use Rattle.nncq_ring.specs.Seats.{BelongsTo, knows};
     ghost use Rattle.nncq_ring.specs.Shown.{SawPlace, ShowsFilled};
@@ -54,6 +54,7 @@ impl Ring {
         requires aim { (J.size ≡ self.now.size) × (J.place ≡ place) }
         ensures own { BelongsTo seat.new self.now }
         ensures view { makes (SawEntry place result) (knows seat.old) (knows seat.new) }
+        ensures was { WasEntry self.now.size place result (events_of (knows seat.old)) }
         ensures near { SawPlace place (events_of (knows seat.old))
             → place / self.now.size ≤ result / self.now.size + 1 }
         ensures empty { get_elem? (events_of (knows seat.old)) 0 ≡ some (SawHead place)

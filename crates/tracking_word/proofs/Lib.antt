@@ -2,4 +2,3 @@ pub mod Words
 pub mod Parts
 pub mod Exact
 mod Steps
-mod LastWords

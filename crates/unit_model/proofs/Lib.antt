@@ -12,6 +12,7 @@ pub mod HeldSound
 pub mod HeldSteps
 pub mod Introductions
 pub mod ItemChanges
+pub mod LastWords
 pub mod ListPremises
 pub mod Lists
 pub mod Members

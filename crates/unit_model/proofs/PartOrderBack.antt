@@ -35,7 +35,7 @@ use Rattle.unit_model.proofs.StreamSteps.{posted_at_most_once}
 use Rattle.unit_model.proofs.Weights.{is_number_same}
 use Rattle.unit_model.proofs.Presence.{twice_here, twice_elsewhere, hand_is_there}
 use Rattle.unit_model.specs.Premises.{Fills, IsInHand}
-use Rattle.unit_model.specs.PartOrder.{Each, four, line_parts, all_parts, course, IsOrdered, IsPopped, IsUnpushed, ArmInOrder, PushInOrder, PopInOrder, SettleInOrder, ReceivedInOrder, PoppedIsNext}
+use Rattle.unit_model.specs.PartOrder.{Each, four, line_parts, all_parts, course, IsOrdered, IsPopped, IsUnpushed, Puts, ArmInOrder, PushInOrder, PopInOrder, SettleInOrder, ReceivedInOrder, PoppedIsNext}
 
 -- ---- lists
 
@@ -69,6 +69,14 @@ first_counts (x ∷ xs) item is low = omega (arith, ap (is_number item) is, is_n
 pub four_same : (r r' p p' l l' a a' : List Part) → r ≡ r' → p ≡ p' → l ≡ l' → a ≡ a' → four r p l a ≡ four r' p' l' a'
 four_same r r' p p' l l' a a' er ep el ea =
     ap (λ x. four x p l a) er ∙ ap (λ x. four r' x l a) ep ∙ ap (λ x. four r' p' x a) el ∙ ap (λ x. four r' p' l' x) ea
+
+-- where one list is written anew with one element at most, no list has more
+few_stay : (lists lists' : ℕ → List ℕ) (key : ℕ) (old now : List ℕ) → Puts lists lists' key old now → length now ≤ 1 → ((k : ℕ) → length (lists k) ≤ 1) → (k : ℕ) → length (lists' k) ≤ 1
+few_stay lists lists' key old now puts few before k =
+    elim (cases_eq k key) [
+      | inl this ↦ omega (arith, few, ap (length {A = ℕ}) (ap lists' this ∙ puts.after))
+      | inr other ↦ omega (arith, before k, ap (length {A = ℕ}) (puts.others k other))
+    ]
 
 skipped : (test : Part → Bool) (x : Part) (xs ys : List Part) → test x ≡ false → filter test (xs ++ (x ∷ ys)) ≡ filter test (xs ++ ys)
 skipped test x xs ys off =
@@ -136,6 +144,7 @@ pub carried : (core new : Core) (engine worker stream : ℕ) (popped popped' arm
     → IsOrdered core engine worker stream popped armed → IsOrdered new engine worker stream popped' armed'
 carried core new engine worker stream popped popped' armed armed' same sends closes old = record {
   gone = old.gone;
+  few = old.few;
   whole = ap (λ ps. ps ++ old.gone) same ∙ old.whole ∙ sym sends;
   complete = λ none. old.complete (sym closes ∙ none);
 }
@@ -171,6 +180,7 @@ push_in_order popped armed armed' core sound old seat engine item place stream f
     ∙ ap (map (λ (e : Entry). part_in core queue e.item)) here ∙ map-append (λ (e : Entry). part_in core queue e.item) (queue_of core queue).line (entry ∷ []) in
     let poster : 1 ≤ by_seat posted core engine stream = subst (λ (s : ℕ). 1 ≤ by_seat posted core engine s) tag (sound.parts.to_poster engine item (λ none. some (sym tag ∙ none))) in
     record {
+      one = old.one;
       pops = λ e. popped_stays core new queue item now sets e (λ k. refl) (λ x is. same_popper core engine item seat x fills hand e is) (popped e) (old.pops e);
       arms = λ e s posts. elim (cases_eq s stream) [
         | inl this ↦ subst (Each (IsUnpushed new e s)) (sym puts.after ∙ ap armed' (sym this)) tt
@@ -243,6 +253,7 @@ pop_in_order popped popped' armed core sound old engine item place role first lo
     let p : Part = part_in core queue item in
     let is_now : item_of new queue item ≡ now = item_here core new queue item now sets in
     record {
+      one = few_stay popped popped' engine [] (item ∷ []) puts (omega arith) old.one;
       pops = λ e. elim (cases_eq e engine) [
         | inl this ↦ subst (λ (n : ℕ). Each (IsPopped new n) (popped' n)) (sym this) (subst (Each (IsPopped new engine)) (sym puts.after) (
           record {
@@ -308,6 +319,7 @@ settle_in_order popped popped' armed core sound old engine item stream tag puts 
     let one : is.seat ≡ engine = hands_differ core queue item is.seat engine theirs mine.hand in
     absurd (omega (arith, is.role, mine.role, ap (role_of core) one)) in
     record {
+      one = few_stay popped popped' engine (item ∷ []) [] puts (omega arith) old.one;
       pops = λ e. elim (cases_eq e engine) [
         | inl this ↦ subst (λ (n : ℕ). Each (IsPopped new n) (popped' n)) (sym this) (subst (Each (IsPopped new engine)) (sym puts.after) tt)
         | inr other ↦ subst (Each (IsPopped new e)) (sym (puts.others e other))
@@ -402,6 +414,7 @@ arm_in_order popped armed armed' core sound old seat engine item stream fills ha
     let one : is (part ∷ []) ≡ part ∷ [] = rw (eq-eqb stream stream refl) refl in
     record {
       gone = [];
+      few = omega arith;
       whole =
           append-nil (course new engine stream (popped engine) (armed' stream)) ∙ ap is all ∙ filter-append (is_of_stream stream) (r ++ (po ++ l)) (part ∷ [])
           ∙ ap (λ (xs : List Part). is (r ++ (po ++ l)) ++ xs) one ∙ ap (λ (xs : List Part). xs ++ part ∷ []) sent_before
@@ -409,6 +422,7 @@ arm_in_order popped armed armed' core sound old seat engine item stream fills ha
       complete = λ _. refl;
     } in
     record {
+      one = old.one;
       pops = λ e. popped_stays core new queue item now sets e (λ k. refl) (λ x is same_queue same. is.tagged (zero e x same_queue same)) (popped e) (old.pops e);
       arms = λ e s posts'.
           let posts : 1 ≤ by_seat posted core e s = omega (arith, posts', posts_stay.each e s) in

@@ -2,7 +2,7 @@
 use Rattle.std.proofs.Common.{ℕ, ◌+◌, ◌^◌, ◌≡◌, ◌≢◌, ◌≤◌, ◌<◌, ◌==◌, ◌&&◌, ◌⊎◌, inl, inr, not, Bool, true, false, List, [], ◌∷◌, ◌++◌, map, filter, drop, set, length, get_or, replicate, refl, sym, ap, ◌∙◌, subst, arith}
 use Rattle.std.specs.Prelude.{None}
 use Rattle.std.proofs.lemmas.Bool.{cases_Bool, cases_eq, cases_lt, eq-eqb, ne_eqb, and_parts}
-use Rattle.std.proofs.lemmas.List.{append-nil, append_assoc, get_or-replicate, get_or_past, length-replicate}
+use Rattle.std.proofs.lemmas.List.{append-nil, append_assoc, get_or-replicate, get_or_past, length-append, length-replicate}
 use Rattle.std.proofs.lemmas.List.Elements.{filter-append}
 use Rattle.unit_model.specs.Conditions.{conditions_by, conditions_of, part_of, may_arm, may_post}
 use Rattle.unit_model.specs.Core.{no_queue, no_seat, queue_of, item_of, role_of, seat_of, first_item}
@@ -32,7 +32,7 @@ use Rattle.unit_model.proofs.Members.{part_at_place, part_of_stream, weighs_in_a
 use Rattle.unit_model.proofs.MetConditions.{each_met, test_of}
 use Rattle.unit_model.proofs.MetSteps.{either_is_there, role_is_there, seat_is_low, seat_has_it, first_free, item_is_low}
 use Rattle.unit_model.proofs.PartNotes.{PartsStay, parts_stay, sent_length, one_itself}
-use Rattle.unit_model.proofs.PartSteps.{counted_is}
+use Rattle.unit_model.proofs.PartSteps.{counted_is, held_unclosed}
 use Rattle.unit_model.proofs.PartLists.{taken_at_most_once}
 use Rattle.unit_model.proofs.SoundRuns.{keeps_sound}
 use Rattle.unit_model.proofs.SeatNotes.{Adds, Stays, Grows, stays, grows, has_counts, has_not_counts, one_seat, seat_in_all, all_less_at}
@@ -119,6 +119,7 @@ module _ (popped armed : ℕ → List ℕ) (core new : Core) (sound : IsSound co
       → ((e w s : ℕ) → 1 ≤ by_seat posted new e s → 1 ≤ by_seat taken new w s → ((1 ≤ by_seat posted core e s) × (1 ≤ by_seat taken core w s)) ⊎ ((by_all taken core s ≡ 0) × (s ≢ 0)))
       → PartsInOrder popped armed new
   quiet posts starts = record {
+    one = old.one;
     pops = λ e. each_gives (IsPopped core e) (IsPopped new e) (popped e) (λ x is. record {
       role = roles e ∙ is.role;
       hand = ap (λ (it : Item). it.whereabouts) (by_tag e x is.tagged) ∙ is.hand;
@@ -146,6 +147,7 @@ module _ (popped armed : ℕ → List ℕ) (core new : Core) (sound : IsSound co
           let no_arm : armed s ≡ [] = old.untaken s fresh.0 in
           record {
             gone = [];
+            few = omega arith;
             whole =
                 append-nil (course new e s (popped e) (armed s)) ∙ ap (course new e s (popped e)) no_arm
                 ∙ ap (filter (is_of_stream s)) (four_same _ (seat_of core e).received _ (map (part_in core (1 + e)) (popped e)) _ (line_parts core (1 + e)) [] [] (receives e) (pops_same e) (lines e) refl)
@@ -386,6 +388,13 @@ others_in_order popped armed core (Abandon seat stream) sound old other met =
 
 -- ---- a worker takes its last part back
 
+filter_few : (test : Part → Bool) (p : Part) → length (filter test (p ∷ [])) ≤ 1
+filter_few test p =
+    elim (cases_Bool (test p)) [
+      | inl passes ↦ rw passes (omega arith)
+      | inr fails ↦ rw fails (omega arith)
+    ]
+
 pub close_in_order : CloseInOrder
 unfolding after_step with_item with_note with_run_owner
 close_in_order popped armed armed' core sound old seat engine item stream role hand tag nonzero puts =
@@ -419,6 +428,7 @@ close_in_order popped armed armed' core sound old seat engine item stream role h
       | inr other ↦ map_all (λ (x : Entry). part_in new (1 + e) x.item) (λ (x : Entry). part_in core (1 + e) x.item) (queue_of core (1 + e)).line (λ x. beside (1 + e) x.item (λ is. absurd (other (omega (arith, is)))))
     ]) in
     record {
+      one = old.one;
       pops = λ e. popped_stays core new queue item now sets e (λ k. refl) (pop_away e) (popped e) (old.pops e);
       arms = λ e s posts. elim (cases_eq s stream) [
         | inl this ↦ subst (Each (IsUnpushed new e s)) (sym puts.after ∙ ap armed' (sym this)) tt
@@ -456,8 +466,11 @@ close_in_order popped armed armed' core sound old seat engine item stream role h
                 ap f (four_same _ r _ po _ l _ [] (receives.each e) (pop_kept e) (line_same e) no_arm ∙ ap (λ (xs : List Part). r ++ (po ++ xs)) (append-nil l)) in
                 let was_course : course core e s (popped e) (armed s) ≡ f (r ++ (po ++ l)) ++ f a =
                 ap f (ap (λ (xs : List Part). r ++ xs) (sym (append_assoc po l a)) ∙ sym (append_assoc r (po ++ l) a)) ∙ filter-append (is_of_stream s) (r ++ (po ++ l)) a in
+                let unclosed : by_seat closed core w s ≡ 0 = omega (arith, seat_in_all closed core w s refl, ap (by_all closed core) this, ap (by_all closed core) tag, held_unclosed core seat engine item sound.parts role hand armed_item) in
+                let one : a ≡ part_in core (1 + e) item ∷ [] = ap (map (part_in core (1 + e))) (ap armed this ∙ puts.before) in
                 record {
                   gone = f a ++ o.gone;
+                  few = omega (arith, length-append (f a) o.gone, ap (length {A = Part}) (o.complete unclosed), ap (λ (xs : List Part). length (f xs)) one, filter_few (is_of_stream s) (part_in core (1 + e) item));
                   whole =
                       ap (λ (xs : List Part). xs ++ (f a ++ o.gone)) now_course ∙ sym (append_assoc (f (r ++ (po ++ l))) (f a) o.gone)
                       ∙ ap (λ (xs : List Part). xs ++ o.gone) (sym was_course) ∙ o.whole ∙ sym (ap f (sends.each w));
@@ -477,6 +490,7 @@ the_same n i x =
 
 pub in_order_at_first : InOrderAtFirst
 in_order_at_first shape = record {
+  one = λ e. omega arith;
   pops = λ e. tt;
   arms = λ e s posts. tt;
   untaken = λ s off. refl;

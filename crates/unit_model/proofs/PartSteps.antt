@@ -115,6 +115,18 @@ carries_past stream number item other =
       | inr beside ↦ rw beside refl
     ]
 
+-- the stream of a part that a worker holds isn't closed
+pub held_unclosed : (core : Core) (seat engine item : ℕ) → PartCounts core → role_of core seat ≡ 1 → (item_of core (1 + engine) item).whereabouts ≡ WithSeat seat
+    → (item_of core (1 + engine) item).tag ≢ 0 → by_all closed core (item_of core (1 + engine) item).tag ≡ 0
+held_unclosed core seat engine item counts worker held some =
+    let was : Item = item_of core (1 + engine) item in
+    let stream : ℕ = was.tag in
+    let number : ℕ = number_in was.part in
+    let final : number + 1 ≡ parts_sent core stream = counts.held_is_final seat engine item worker held some in
+    let under_way : 1 ≤ times_under_way core stream number =
+    omega (arith, carries_this stream number was refl refl, back_item_in_all (carries stream number) core engine item (carries_none stream number blank some refl)) in
+    omega (arith, counts.one_state stream number some, under_way, one_if_small (nat_lt number (parts_sent core stream)), withdrawn_final core stream number final)
+
 pub withdraws : (core new : Core) (seat engine item : ℕ) (now : Item) → StreamCounts core → new.shape ≡ core.shape → Adds core new seat (Closed (item_of core (1 + engine) item).tag) → SetsItem core new (1 + engine) item now → now.tag ≡ 0 → (item_of core (1 + engine) item).tag ≢ 0 → role_of core seat ≡ 1 → (item_of core (1 + engine) item).whereabouts ≡ WithSeat seat → PartCounts core → PartCounts new
 withdraws core new seat engine item now streams shape adds sets untagged some worker held old =
     let was : Item = item_of core (1 + engine) item in
@@ -131,10 +143,7 @@ withdraws core new seat engine item now streams shape adds sets untagged some wo
     let number : ℕ = number_in was.part in
     let final : number + 1 ≡ parts_sent core stream = old.held_is_final seat engine item worker held some in
     let has : 1 ≤ by_seat taken core seat stream = old.sent_by_taker seat stream (old.held_is_own seat engine item worker held some) in
-    let under_way : 1 ≤ times_under_way core stream number =
-    omega (arith, carries_this stream number was refl refl, back_item_in_all (carries stream number) core engine item (carries_none stream number blank some refl)) in
-    let unclosed : by_all closed core stream ≡ 0 =
-    omega (arith, old.one_state stream number some, under_way, one_if_small (nat_lt number (parts_sent core stream)), withdrawn_final core stream number final) in
+    let unclosed : by_all closed core stream ≡ 0 = held_unclosed core seat engine item old worker held some in
     let more : by_seat closed core seat stream + 1 ≤ by_seat taken core seat stream = omega (arith, seat_in_all closed core seat stream refl, unclosed, has) in
     record {
       closed_by_taker = λ k other. omega (arith, t.each k other, stays_within closed core new seat stream (λ k other. by_seat taken core k other) c old.closed_by_taker more k other);

@@ -38,9 +38,10 @@ all_parts core engine popped armed =
 abbrev pub course : Core → ℕ → ℕ → List ℕ → List ℕ → List Part
 course core engine stream popped armed = filter (is_of_stream stream) (all_parts core engine popped armed)
 
--- they are what the worker sent, but for a last one that was taken back, where the stream is closed
+-- they are what the worker sent, but for at most one last part, which was taken back where the stream is closed
 pub record IsOrdered (core : Core) (engine worker stream : ℕ) (popped armed : List ℕ) : Type 0 where
   pub gone : List Part
+  pub few : length gone ≤ 1
   pub whole : course core engine stream popped armed ++ gone ≡ sent_parts core worker stream
   pub complete : by_seat closed core worker stream ≡ 0 → gone ≡ []
 
@@ -60,6 +61,7 @@ pub record IsUnpushed (core : Core) (engine stream item : ℕ) : Type 0 where
 -- `popped engine` is what the views of an engine say that it popped, and `armed stream` what the view with the stream's
 -- work says that it armed: each is of one item at most
 pub record PartsInOrder (popped armed : ℕ → List ℕ) (core : Core) : Type 0 where
+  pub one : (engine : ℕ) → length (popped engine) ≤ 1
   pub pops : (engine : ℕ) → Each (IsPopped core engine) (popped engine)
   pub arms : (engine stream : ℕ) → 1 ≤ by_seat posted core engine stream
       → Each (IsUnpushed core engine stream) (armed stream)

@@ -138,8 +138,8 @@ pub fn the_account_is_whole()
 {}
 
 /// The parts of a stream that its engine received, popped and not settled, in its line, and armed and not pushed are, joined,
-/// those that the worker sent, in their order, but for a last one that was taken back. So it is at first, and each enabled
-/// step keeps it.
+/// those that the worker sent, in their order, but for at most one last part that was taken back. An engine has at most one
+/// popped part that it hasn't settled. So it is at first, and each enabled step keeps it.
 pub fn parts_stay_in_order()
     ensures at_first { InOrderAtFirst }
     ensures arm { ArmInOrder }

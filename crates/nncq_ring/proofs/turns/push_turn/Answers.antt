@@ -1,10 +1,10 @@
-use Rattle.std.proofs.Common.{rules, ℕ, ◌≡◌, ◌+◌, ◌/◌, ◌<◌, ◌≤◌, subst, ap, inl, List}
+use Rattle.std.proofs.Common.{rules, ℕ, ◌≡◌, ◌+◌, ◌/◌, ◌<◌, ◌≤◌, subst, ap, inl, inr, List}
 use mathlib.Core.Option.{some}
 use lib.ListN.{get_elem?}
 use Rattle.nncq_ring.specs.declared.view.RingEvent.{RingEvent}
 use Rattle.nncq_ring.specs.declared.view.RingEvent.TheVariants.{SawTail, SawEntry}
 use Rattle.nncq_ring.specs.Turns.{IsDone, IsPushLost, Tells}
-use Rattle.nncq_ring.proofs.Turning.{second_newest, put_shows, done, lost_filled, lost_later, lost_exchange}
+use Rattle.nncq_ring.proofs.Turning.{newest, second_newest, put_shows, done, lost_filled, lost_later, lost_exchange}
 use Rattle.nncq_ring.proofs.turns.push_turn.Goals as goal
 
 pub put-requires-clause-may : goal.put-requires-clause-may
@@ -28,6 +28,17 @@ move_tail-requires-clause-shown g c =
     put_shows s.View (s.events ring) (s.steps ring) (g.met.T.RingSteps.logs ring) (s.slots ring) c.see_tail-tail.result c.args.v (s.knows c.see_entry-entry.new.seat) (s.knows c.put.new.seat)
     (c.put.ensures.won c.if-put-entry.true).0
 
+pub move_tail-requires-in-Filled-clause-shown : goal.move_tail-requires-in-Filled-clause-shown
+move_tail-requires-in-Filled-clause-shown g c =
+    let s = g.T.RingSteps in
+    let ring = c.args.ring.now in
+    let has : c.see_entry-entry.result / s.slots ring ≡ c.see_tail-tail.result / s.slots ring = search rules in
+    inr (
+      c.see_entry-entry.result,
+      newest s.View (s.events ring) (s.steps ring) (g.met.T.RingSteps.logs ring) (SawEntry c.see_tail-tail.result c.see_entry-entry.result) (s.knows c.see_tail-tail.new.seat) (s.knows c.see_entry-entry.new.seat) c.see_entry-entry.ensures.view,
+      has,
+    )
+
 pub returns-in-Vacant-clause-done : goal.returns-in-Vacant-clause-done
 returns-in-Vacant-clause-done g c place is =
     let s = g.T.RingSteps in
@@ -37,7 +48,7 @@ returns-in-Vacant-clause-done g c place is =
     let same : c.see_tail-tail.result ≡ place = cc is in
     subst (λ (p : ℕ). Tells (s.steps ring) v (s.knows c.move_tail.new.seat) (IsDone n c.args.v (s.events ring v) p)) same
     (done s.View (s.events ring) (s.steps ring) (g.met.T.RingSteps.logs ring) n c.see_tail-tail.result c.see_entry-entry.result (search rules) v (s.knows c.see_tail-tail.new.seat) (s.knows c.see_entry-entry.new.seat)
-    c.see_tail-tail.ensures.was c.see_tail-tail.ensures.view c.see_entry-entry.ensures.view c.args.v (s.knows c.put.new.seat) (s.knows c.move_tail.new.seat) (search rules) (c.put.ensures.won c.if-put-entry.true) c.move_tail.ensures.view)
+    c.see_tail-tail.ensures.was c.see_tail-tail.ensures.view c.see_entry-entry.ensures.view c.see_entry-entry.ensures.was c.args.v (s.knows c.put.new.seat) (s.knows c.move_tail.new.seat) (search rules) (c.put.ensures.won c.if-put-entry.true) c.move_tail.ensures.view)
 
 pub returns-in-Filled-clause-lost : goal.returns-in-Filled-clause-lost
 returns-in-Filled-clause-lost g c place entry is =
@@ -49,7 +60,7 @@ returns-in-Filled-clause-lost g c place entry is =
     let same' : c.see_entry-entry.result ≡ entry = cc is in
     subst (λ (x : ℕ). Tells (s.steps ring) v (s.knows c.move_tail-in-Filled.new.seat) (IsPushLost n (s.events ring v) place x)) same' (subst (λ (p : ℕ). Tells (s.steps ring) v (s.knows c.move_tail-in-Filled.new.seat) (IsPushLost n (s.events ring v) p c.see_entry-entry.result)) same
     (lost_filled s.View (s.events ring) (s.steps ring) (g.met.T.RingSteps.logs ring) n c.see_tail-tail.result c.see_entry-entry.result (search rules) v (s.knows c.see_tail-tail.new.seat) (s.knows c.see_entry-entry.new.seat)
-    c.see_tail-tail.ensures.was c.see_tail-tail.ensures.view c.see_entry-entry.ensures.view (s.knows c.move_tail-in-Filled.new.seat) (search rules) c.move_tail-in-Filled.ensures.view))
+    c.see_tail-tail.ensures.was c.see_tail-tail.ensures.view c.see_entry-entry.ensures.view c.see_entry-entry.ensures.was (s.knows c.move_tail-in-Filled.new.seat) (search rules) c.move_tail-in-Filled.ensures.view))
 
 pub returns-in_default-clause-lost : goal.returns-in_default-clause-lost
 returns-in_default-clause-lost g c place entry is =
@@ -61,7 +72,7 @@ returns-in_default-clause-lost g c place entry is =
     let same' : c.see_entry-entry.result ≡ entry = cc is in
     subst (λ (x : ℕ). Tells (s.steps ring) v (s.knows c.put.new.seat) (IsPushLost n (s.events ring v) place x)) same' (subst (λ (p : ℕ). Tells (s.steps ring) v (s.knows c.put.new.seat) (IsPushLost n (s.events ring v) p c.see_entry-entry.result)) same
     (lost_exchange s.View (s.events ring) (s.steps ring) (g.met.T.RingSteps.logs ring) n c.see_tail-tail.result c.see_entry-entry.result (search rules) v (s.knows c.see_tail-tail.new.seat) (s.knows c.see_entry-entry.new.seat)
-    c.see_tail-tail.ensures.was c.see_tail-tail.ensures.view c.see_entry-entry.ensures.view c.put.result (s.knows c.put.new.seat) (search rules) (search rules) (c.put.ensures.missed (search rules))))
+    c.see_tail-tail.ensures.was c.see_tail-tail.ensures.view c.see_entry-entry.ensures.view c.see_entry-entry.ensures.was c.put.result (s.knows c.put.new.seat) (search rules) (search rules) (c.put.ensures.missed (search rules))))
 
 pub returns-in_default-2-clause-lost : goal.returns-in_default-2-clause-lost
 returns-in_default-2-clause-lost g c place entry is =
@@ -76,4 +87,4 @@ returns-in_default-2-clause-lost g c place entry is =
     let later : c.see_tail-tail.result / n < c.see_entry-entry.result / n = search rules in
     subst (λ (x : ℕ). Tells (s.steps ring) v (s.knows c.see_entry-entry.new.seat) (IsPushLost n (s.events ring v) place x)) same' (subst (λ (p : ℕ). Tells (s.steps ring) v (s.knows c.see_entry-entry.new.seat) (IsPushLost n (s.events ring v) p c.see_entry-entry.result)) same
     (lost_later s.View (s.events ring) (s.steps ring) (g.met.T.RingSteps.logs ring) n c.see_tail-tail.result c.see_entry-entry.result (search rules) v (s.knows c.see_tail-tail.new.seat) (s.knows c.see_entry-entry.new.seat)
-    c.see_tail-tail.ensures.was c.see_tail-tail.ensures.view c.see_entry-entry.ensures.view later))
+    c.see_tail-tail.ensures.was c.see_tail-tail.ensures.view c.see_entry-entry.ensures.view c.see_entry-entry.ensures.was later))

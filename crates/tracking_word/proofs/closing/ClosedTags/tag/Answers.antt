@@ -1,11 +1,6 @@
-use Rattle.std.proofs.Common.{ℕ, ◌<◌, List, length, arith}
-use Rattle.std.specs.Slots.{slots_counts, slots_items}
-use Rattle.tracking_word.proofs.LastWords.{word_read}
+use Rattle.std.specs.Slots.{slots_items}
+use Rattle.unit_model.proofs.LastWords.{word_read}
 use Rattle.tracking_word.proofs.closing.ClosedTags.tag.Goals as goal
 
 pub returns : goal.returns
-returns c =
-    let closed = c.args.self.now in
-    let words : List ℕ = slots_items closed.closed.words in
-    let there : c.args.item < length words = omega (arith, (slots_counts closed.closed.words).0, closed.full.1, c.requires) in
-    word_read words (c.args.item) c.word.result there c.word.ensures
+returns c = word_read (slots_items c.args.self.now.closed.words) c.args.item c.word.result c.word.ensures

@@ -1,0 +1,5 @@
+pub mod Lookups
+pub mod Moving
+pub mod RunLists
+pub mod EmptySlots
+pub mod Contents

@@ -1,0 +1,5 @@
+pub mod Carried
+pub mod Acts
+pub mod RunSlots
+pub mod EmptySlots
+pub mod SlotLaws

@@ -1,0 +1,53 @@
+//! Laws on acts and on carried slots. Each function does nothing: its contract is the law.
+ghost use Rattle.carried_slots.specs.SlotLaws.{BecomesLaw, BroughtLaw, ContentLaw, EmptyGoneLaw, KnownLaw, RunGoneLaw, RunTakenLaw, SameValuesLaw, TakenLaw, WithoutLaw};
+
+/// What a seat carries becomes any of its slots, in any order: the others go home with their values, and no other slot of the
+/// table moves.
+pub fn slots_become_others<S>()
+    ensures { BecomesLaw S }
+{}
+
+/// Slots that are at home come in front of what a seat carries, and no other slot of the table moves.
+pub fn slots_are_taken<S>()
+    ensures { TakenLaw S }
+{}
+
+/// A slot that is carried has a value, and one that isn't has none.
+pub fn a_carried_slot_has_a_value<S>()
+    ensures { ContentLaw S }
+{}
+
+/// Without one slot the others have the values that they had.
+pub fn a_slot_is_without<S>()
+    ensures { WithoutLaw S }
+{}
+
+/// A slot comes to the front, and each has the value that it had.
+pub fn a_slot_comes_to_the_front<S>()
+    ensures { BroughtLaw S }
+{}
+
+/// Without the slots of a run the others have the values that they had.
+pub fn a_run_is_without<S>()
+    ensures { RunGoneLaw S }
+{}
+
+/// With the slots of a run each of these has its value, and the others have the values that they had.
+pub fn a_run_is_taken<S>()
+    ensures { RunTakenLaw S }
+{}
+
+/// An empty slot goes, and the slots with values stay as they are.
+pub fn an_empty_slot_goes<T>()
+    ensures { EmptyGoneLaw T }
+{}
+
+/// The slots with values and the weight of the empty ones tell what each slot has.
+pub fn a_slot_is_known<T>()
+    ensures { KnownLaw T }
+{}
+
+/// The slots of a run have one list of values, so that what is read in order is what was filled in order.
+pub fn slots_have_one_list_of_values<T>()
+    ensures { SameValuesLaw T }
+{}
