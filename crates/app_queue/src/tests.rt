@@ -182,8 +182,8 @@ fn free_on<R: Wait>(rt: &R, queue: &AppQueue, seat: &mut QueueSeat, item: u32)
 fn go_round<R: Wait>(rt: &R, queue: &AppQueue, seat: &mut QueueSeat) -> u32
     requires own { BelongsTo seat.old queue.now }
 {
-    let mut count = 0;
-    for _ in 0..1000 {
+    let mut count = 0u32;
+    for _ in 0..1000u32 {
         let item = take_on(rt, queue, seat);
         arm(queue, seat, item);
         push_on(rt, queue, seat, item);

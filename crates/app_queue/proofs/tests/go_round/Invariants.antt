@@ -1,4 +1,4 @@
-use Rattle.std.proofs.Common.{◌≤◌, ◌<◌}
+use Rattle.std.proofs.Common.{◌≤◌}
 use Rattle.app_queue.specs.Seats.{BelongsTo}
 use Rattle.app_queue.proofs.tests.go_round.Given as goal
 

@@ -1,4 +1,3 @@
-
 use Rattle.app_queue.specs.Seats.{BelongsTo, knows}
 use Rattle.app_queue.proofs.tests.pop_on.Given as goal
 
