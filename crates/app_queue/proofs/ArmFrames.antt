@@ -1,18 +1,18 @@
 -- What steps do to what is said of arms and their get places.
-use Rattle.std.proofs.Common.{ℕ, zero, suc, ◌+◌, ◌≡◌, ◌≢◌, ◌≤◌, ◌<◌, ◌==◌, ◌&&◌, ◌⊎◌, inl, inr, ⊎_elim, List, [], ◌∷◌, length, set, refl, sym, ap, ◌∙◌, subst, arith}
+use Rattle.std.proofs.Common.{ℕ, zero, suc, ◌+◌, ◌≡◌, ◌≢◌, ◌≤◌, ◌<◌, ◌⊎◌, inl, inr, ⊎_elim, List, [], ◌∷◌, length, set, refl, sym, ap, ◌∙◌, subst, arith}
 use Rattle.std.proofs.lemmas.Bool.{cases_eq, cases_lt}
 use Rattle.std.proofs.lemmas.Bool.Decides.{nat_tests}
 use mathlib.Core.Option.{some, some-injective, some-ne-none}
 use lib.ListN.{get_elem?}
 use Rattle.atomic_table.proofs.Lists.{at_set, set_here, set_else}
-use Rattle.unit_model.specs.Sharing.{Owned, Holds}
-use Rattle.unit_model.specs.Weights.{weigh, one_if}
+use Rattle.unit_model.specs.Sharing.{Holds}
+use Rattle.unit_model.specs.Weights.{weigh}
 use Rattle.unit_model.proofs.Sharing.{owned_once}
 use Rattle.unit_model.proofs.Views.{sum_set}
-use Rattle.app_queue.specs.Arms.{Arm, is_arm_at, WasArmed, IsLatest, IsStanding, IsFresh, ArmsOfQueue}
-use Rattle.app_queue.specs.FrameLaws.{ArmedWordsStay, ArmsStayLaw, ArmsGetLaw, ArmsArmLaw}
+use Rattle.app_queue.specs.Arms.{Arm, is_arm_at, WasArmed, IsLatest, IsStanding, IsFresh}
+use Rattle.app_queue.specs.FrameLaws.{ArmsStayLaw, ArmsGetLaw, ArmsArmLaw}
 
-is_there : {V : Type 0} (xs : List V) (k : ℕ) (x : V) → get_elem? xs k ≡ some x → k < length xs
+pub is_there : {V : Type 0} (xs : List V) (k : ℕ) (x : V) → get_elem? xs k ≡ some x → k < length xs
 is_there [] k x at = absurd (some-ne-none x (sym at))
 is_there (y ∷ ys) zero x at = omega arith
 is_there (y ∷ ys) (suc k) x at = let more : k < length ys = is_there ys k x at in omega arith

@@ -1,5 +1,5 @@
 -- The words of a queue that was just made, by the writes that make them.
-use Rattle.std.proofs.Common.{ℕ, ◌+◌, ◌*◌, ◌%◌, ◌≡◌, ◌≢◌, ◌≤◌, ◌<◌, ◌⊎◌, inl, inr, List, length, slice_index, set, ap, ◌∙◌, arith, length-set, get_or-set_same, get_or-set_other, mod-lt}
+use Rattle.std.proofs.Common.{ℕ, ◌+◌, ◌*◌, ◌%◌, ◌≡◌, ◌≢◌, ◌≤◌, ◌<◌, List, length, slice_index, set, ap, ◌∙◌, arith, length-set, get_or-set_same, get_or-set_other, mod-lt}
 use Rattle.nncq_ring.specs.Words.{entry_of}
 use Rattle.app_queue.specs.Opening.{IsFirst}
 
@@ -75,4 +75,10 @@ module _ (n start : ℕ) (ws : List ℕ) (pos : 0 < n) (wide : length ws ≡ 112
     tags = λ item lt.
         unset (112 + 2 * n + item) (λ is. absurd (omega (arith, is))) (λ is. absurd (omega (arith, is))) (λ is. absurd (omega (arith, is))) (λ is. absurd (omega (arith, is)))
         ∙ zero (112 + 2 * n + item) (omega arith) (omega (arith, lt));
+    runs = λ item lt.
+        unset (112 + 3 * n + item) (λ is. absurd (omega (arith, is))) (λ is. absurd (omega (arith, is))) (λ is. absurd (omega (arith, is))) (λ is. absurd (omega (arith, is)))
+        ∙ zero (112 + 3 * n + item) (omega arith) (omega (arith, lt));
+    parts = λ item lt.
+        unset (112 + 4 * n + item) (λ is. absurd (omega (arith, is))) (λ is. absurd (omega (arith, is))) (λ is. absurd (omega (arith, is))) (λ is. absurd (omega (arith, is)))
+        ∙ zero (112 + 4 * n + item) (omega arith) (omega (arith, lt));
   }

@@ -1,8 +1,8 @@
 -- What steps do to the histories of rings.
-use Rattle.std.proofs.Common.{ℕ, ◌+◌, ◌≡◌, ◌<◌, inl, List, [], ◌∷◌, ◌++◌, set, ap, ◌∙◌, arith}
+use Rattle.std.proofs.Common.{ℕ, ◌+◌, ◌≡◌, List, [], ◌∷◌, ◌++◌, set, ap, arith}
 use mathlib.Core.Option.{some}
 use lib.ListN.{get_elem?}
-use Rattle.unit_model.specs.Weights.{weigh, below}
+use Rattle.unit_model.specs.Weights.{weigh}
 use Rattle.unit_model.proofs.Views.{sum_set, sum_split, sum_join}
 use Rattle.nncq_ring.specs.Rule.{Emptied}
 use Rattle.nncq_ring.specs.Words.{Words, line_of}
@@ -11,7 +11,7 @@ use Rattle.nncq_ring.proofs.Staying.{same_line}
 use Rattle.app_queue.specs.declared.side.Side.{Side}
 use Rattle.app_queue.specs.FrameLaws.{HistoriesStayLaw, HistoryStepLaw}
 use Rattle.app_queue.specs.Parts.{HasMoved, RingHistories}
-use Rattle.app_queue.specs.Queues.{Shape, IsOther}
+use Rattle.app_queue.specs.Queues.{Shape}
 use Rattle.app_queue.proofs.ForEach.{at_ring}
 
 module _ {V : Type 0} (pushes pops : (ℕ → ℕ → ℕ) → V → ℕ) (n : ℕ) (begun : List (ℕ × ℕ)) (w w' : Words) (views : List V) (k : ℕ) (v u : V) (at : get_elem? views k ≡ some v) where

@@ -1,5 +1,5 @@
 -- What steps do to what is said of items in rings and in hands.
-use Rattle.std.proofs.Common.{ℕ, ◌+◌, ◌≡◌, ◌<◌, inl, ⊎_elim, List, [], ◌∷◌, ◌++◌, set, ap, ◌∙◌, subst, arith}
+use Rattle.std.proofs.Common.{ℕ, ◌+◌, ◌≡◌, inl, ⊎_elim, List, [], ◌∷◌, ◌++◌, set, ap, ◌∙◌, arith}
 use mathlib.Core.Option.{some}
 use lib.ListN.{get_elem?}
 use Rattle.unit_model.specs.Sharing.{Owned}

@@ -1,12 +1,12 @@
 -- Each step at an item of a queue keeps the rule of its table.
-use Rattle.std.proofs.Common.{ℕ, ◌+◌, ◌≡◌, ◌≢◌, ◌<◌, ◌≤◌, ◌⊎◌, inl, inr, ⊎_elim, eqb, List, [], ◌∷◌, length, set, Some, None, refl, sym, ap, ◌∙◌, subst, arith, length-set}
+use Rattle.std.proofs.Common.{ℕ, ◌≡◌, ◌≢◌, ◌<◌, ◌≤◌, ◌⊎◌, inl, inr, ⊎_elim, eqb, List, ◌∷◌, set, Some, refl, sym, ap, ◌∙◌, subst, arith, length-set}
 use Rattle.std.proofs.lemmas.Bool.{cases_eq}
 use Rattle.std.proofs.lemmas.List.{set-get_or}
 use prog.Atomic.{either}
 use lib.ListN.{get_elem?}
-use Rattle.atomic_table.specs.Table.{State, Act, keeps, stepped, Valid, carried_after}
+use Rattle.atomic_table.specs.Table.{State, keeps, stepped}
 use Rattle.atomic_table.proofs.Lists.{exchanged}
-use Rattle.unit_model.specs.Sharing.{Holds, Owned}
+use Rattle.unit_model.specs.Sharing.{Holds}
 use Rattle.unit_model.specs.Weights.{weigh, is_number}
 use Rattle.unit_model.proofs.Sharing.{owned_here}
 use Rattle.nncq_ring.specs.Views.{push_weight, pop_weight}
@@ -17,10 +17,9 @@ use Rattle.app_queue.specs.declared.side.Side.TheVariants.{Free, Line}
 use Rattle.app_queue.specs.declared.view.ItemEvent.{ItemEvent}
 use Rattle.app_queue.specs.declared.view.ItemEvent.TheVariants.{RunNoted, PartNoted, TagNoted, Armed, Won, Gone}
 use Rattle.app_queue.specs.declared.view.QueueView.{QueueView}
-use Rattle.app_queue.specs.FrameLaws.{SaysNoMore, SaysOfOne}
 use Rattle.app_queue.specs.Layout.{word_at, word_of, ring_of, one_queue, queue_words, IsReal}
 use Rattle.app_queue.specs.Parts.{IsIn, lines_weight, FreeUntagged, TagsCounted, TagsKnown, WordsKnown}
-use Rattle.app_queue.specs.Queues.{RingsStay, WordsStay}
+use Rattle.app_queue.specs.Queues.{RingsStay}
 use Rattle.app_queue.specs.Rule.{QueueHolds, begun_with, starts_at}
 use Rattle.app_queue.specs.Told.{SeesTag, SeesRun, SeesPart, Settles}
 use Rattle.app_queue.specs.Views.{last_tag, last_run, last_part, held_by, held_of, log_at, log_of, pushes_of, pops_of, arm_weight, win_weight, arms_of, wins_of, tag_said, run_said, part_said, after}
@@ -28,7 +27,7 @@ use Rattle.app_queue.proofs.HistoryFrames.{histories_stay}
 use Rattle.app_queue.proofs.ItemFrames.{same_weight, items_stay, free_stay}
 use Rattle.app_queue.proofs.KnownFrames.{tags_known, tags_known_one, tags_known_set, tags_known_won, words_known, words_known_one, words_known_set}
 use Rattle.app_queue.proofs.Places.{rings_else, tags_else, runs_else, parts_else, tag_set, run_set, part_set}
-use Rattle.app_queue.proofs.QueueSteps.{After, first, words_then, tag_zero}
+use Rattle.app_queue.proofs.QueueSteps.{After, words_then, tag_zero}
 use Rattle.app_queue.proofs.QueueViews.{told_else, told_here, won_told, gone_told}
 use Rattle.app_queue.proofs.RingFrames.{rings_stay}
 use Rattle.app_queue.proofs.TagFrames.{tags_counted, tags_armed, tags_won}

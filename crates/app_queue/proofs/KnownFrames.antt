@@ -10,9 +10,9 @@ use Rattle.unit_model.proofs.Sharing.{owned_once}
 use Rattle.tracking_word.specs.Words.{Sets, Stays}
 use Rattle.tracking_word.proofs.Parts.{known_split, known_join}
 use Rattle.tracking_word.proofs.Exact.{exact_split, exact_join}
-use Rattle.app_queue.specs.Queues.{Shape, SetsWord}
+use Rattle.app_queue.specs.Queues.{Shape}
 use Rattle.app_queue.specs.Parts.{TagsKnown, WordsKnown}
-use Rattle.app_queue.specs.FrameLaws.{SaysNoMore, SaysOfOne, TagsKnownStayLaw, TagsKnownOneLaw, TagsKnownSetLaw, TagsKnownWinLaw, WordsKnownStayLaw, WordsKnownOneLaw, WordsKnownSetLaw}
+use Rattle.app_queue.specs.FrameLaws.{SaysNoMore, TagsKnownStayLaw, TagsKnownOneLaw, TagsKnownSetLaw, TagsKnownWinLaw, WordsKnownStayLaw, WordsKnownOneLaw, WordsKnownSetLaw}
 use Rattle.app_queue.proofs.ForEach.{at_queue}
 
 -- what a view says of the items that it holds is good

@@ -5,6 +5,7 @@ pub mod ItemFrames
 pub mod TagFrames
 pub mod KnownFrames
 pub mod ArmFrames
+pub mod ArmSeats
 pub mod Places
 pub mod QueueViews
 pub mod QueueSteps

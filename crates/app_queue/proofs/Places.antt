@@ -1,7 +1,6 @@
 -- The words of one queue stand apart, and setting one changes that one alone.
-use Rattle.std.proofs.Common.{ℕ, ◌+◌, ◌*◌, ◌≡◌, ◌≢◌, ◌≤◌, ◌<◌, ◌⊎◌, ⊎_elim, List, length, set, sym, ap, arith, get_or-set_same, get_or-set_other}
-use Rattle.nncq_ring.specs.Words.{Words, SameWords, SetsEntry, SetsTail, SetsHead}
-use Rattle.tracking_word.specs.Words.{Sets}
+use Rattle.std.proofs.Common.{ℕ, ◌+◌, ◌≡◌, ◌≢◌, ◌<◌, ⊎_elim, List, length, set, ap, arith, get_or-set_same, get_or-set_other}
+use Rattle.nncq_ring.specs.Words.{SameWords, SetsEntry, SetsTail, SetsHead}
 use Rattle.app_queue.specs.declared.layout.Place.{Place}
 use Rattle.app_queue.specs.declared.layout.Place.TheVariants.{InRing, TagOf, RunOf, PartOf}
 use Rattle.app_queue.specs.declared.side.Side.{Side}

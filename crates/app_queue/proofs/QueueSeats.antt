@@ -1,8 +1,8 @@
 -- Splits, joins and the opening of a queue keep the rule of its table.
-use Rattle.std.proofs.Common.{ℕ, zero, suc, ◌+◌, ◌%◌, ◌/◌, ◌*◌, ◌^◌, ◌≡◌, ◌<◌, ◌≤◌, inl, inr, List, [], ◌∷◌, ◌++◌, length, set, Some, refl, sym, ap, ◌∙◌, subst, arith}
+use Rattle.std.proofs.Common.{ℕ, ◌+◌, ◌/◌, ◌^◌, ◌≡◌, ◌<◌, ◌≤◌, inl, inr, List, [], ◌∷◌, ◌++◌, refl, sym, ap, ◌∙◌, subst, arith}
 use Rattle.std.proofs.lemmas.Nat.{div-mul-add}
 use lib.ListN.{get_elem?}
-use Rattle.atomic_table.specs.Table.{State, Splits, Joins, opening}
+use Rattle.atomic_table.specs.Table.{Splits, Joins, opening}
 use Rattle.atomic_table.proofs.Lists.{set_else}
 use Rattle.unit_model.specs.Weights.{weigh, below}
 use Rattle.unit_model.proofs.Views.{only_view}
@@ -10,7 +10,6 @@ use Rattle.unit_model.proofs.Weights.{weigh-append}
 use Rattle.nncq_ring.specs.declared.view.RingEvent.{RingEvent}
 use Rattle.nncq_ring.specs.Notes.{AllNoted, RingPart}
 use Rattle.nncq_ring.specs.Views.{push_weight, pop_weight}
-use Rattle.nncq_ring.specs.Rule.{line_weight}
 use Rattle.nncq_ring.specs.Words.{IsWellFormed, logical_tail, line_of}
 use Rattle.nncq_ring.proofs.Full.{full_fine, full_starts, full_tail, full_weighs}
 use Rattle.nncq_ring.proofs.Noting.{starts}

@@ -1,5 +1,5 @@
 -- Each step at a ring of a queue keeps the rule of its table.
-use Rattle.std.proofs.Common.{ℕ, ◌+◌, ◌/◌, ◌%◌, ◌^◌, ◌≡◌, ◌≢◌, ◌<◌, ◌≤◌, ◌⊎◌, inl, inr, ⊎_elim, eqb, List, [], ◌∷◌, length, set, Some, None, refl, sym, ap, ◌∙◌, subst, arith, length-set, mod-lt}
+use Rattle.std.proofs.Common.{ℕ, ◌+◌, ◌/◌, ◌%◌, ◌^◌, ◌≡◌, ◌≢◌, ◌<◌, ◌⊎◌, inl, inr, ⊎_elim, eqb, List, set, Some, None, refl, sym, ap, ◌∙◌, subst, arith, length-set, mod-lt}
 use Rattle.std.proofs.lemmas.Bool.{cases_lt}
 use Rattle.std.proofs.lemmas.List.{set-get_or}
 use prog.Atomic.{either}
@@ -24,7 +24,7 @@ use Rattle.app_queue.specs.declared.side.Side.{Side}
 use Rattle.app_queue.specs.declared.side.Side.TheVariants.{Free, Line}
 use Rattle.app_queue.specs.declared.view.ItemEvent.{ItemEvent}
 use Rattle.app_queue.specs.declared.view.QueueView.{QueueView}
-use Rattle.app_queue.specs.FrameLaws.{SaysNoMore, SaysOfOne}
+use Rattle.app_queue.specs.FrameLaws.{SaysNoMore}
 use Rattle.app_queue.specs.Layout.{word_at, word_of, ring_of, one_queue, queue_words}
 use Rattle.app_queue.specs.Parts.{HasMoved, IsIn, FreeUntagged, TagsKnown, WordsKnown, lines_weight}
 use Rattle.app_queue.specs.Queues.{WordsStay}

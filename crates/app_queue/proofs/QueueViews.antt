@@ -1,9 +1,9 @@
 -- What events make of a view.
-use Rattle.std.proofs.Common.{ℕ, ◌+◌, ◌*◌, ◌≡◌, ◌≢◌, ◌<◌, ◌≤◌, ◌==◌, ◌⊎◌, inl, inr, Bool, true, false, cond, List, [], ◌∷◌, ◌++◌, Option, Some, None, refl, sym, ap, ◌∙◌, subst, arith}
+use Rattle.std.proofs.Common.{ℕ, ◌+◌, ◌*◌, ◌≡◌, ◌≢◌, ◌<◌, ◌≤◌, ◌==◌, ◌⊎◌, inl, inr, Bool, cond, List, ◌∷◌, Option, Some, refl, sym, ap, ◌∙◌, subst, arith}
 use Rattle.std.proofs.lemmas.Bool.{eq-eqb, ne_eqb, cases_eq, eqb-true}
 use Rattle.unit_model.specs.Sharing.{Holds}
 use Rattle.unit_model.specs.Weights.{weigh, is_number, without_first}
-use Rattle.unit_model.proofs.Weights.{weigh-append, weigh-without_first, weigh_le, is_number_same, is_number_other, is_number_some}
+use Rattle.unit_model.proofs.Weights.{weigh-without_first, weigh_le, is_number_same, is_number_other}
 use Rattle.nncq_ring.specs.declared.view.RingEvent.{RingEvent}
 use Rattle.nncq_ring.specs.declared.view.RingEvent.TheVariants.{SawTail, SawHead, SawEntry, Pushed, Popped}
 use Rattle.app_queue.specs.declared.side.Side.{Side}
@@ -11,9 +11,8 @@ use Rattle.app_queue.specs.declared.side.Side.TheVariants.{Free, Line}
 use Rattle.app_queue.specs.declared.view.ItemEvent.{ItemEvent}
 use Rattle.app_queue.specs.declared.view.ItemEvent.TheVariants.{Taken, Won, Gone}
 use Rattle.app_queue.specs.declared.view.QueueView.{QueueView}
-use Rattle.app_queue.specs.FrameLaws.{SaysNoMore, SaysOfOne}
-use Rattle.app_queue.specs.Queues.{IsOther}
-use Rattle.app_queue.specs.Views.{last_tag, held_by, held_of, log_at, log_of, tag_said, run_said, part_said, HoldsBelow, does, makes, items_after, settling}
+use Rattle.app_queue.specs.FrameLaws.{SaysNoMore}
+use Rattle.app_queue.specs.Views.{held_by, held_of, log_at, tag_said, run_said, part_said, HoldsBelow, does, items_after, settling}
 
 -- ---- one event's word
 

@@ -8,7 +8,7 @@ use Rattle.nncq_ring.specs.Words.{Words, logical_tail}
 use Rattle.nncq_ring.proofs.RingParts.{part_splits, part_joins}
 use Rattle.nncq_ring.proofs.Staying.{same_tail, part_same}
 use Rattle.app_queue.specs.declared.side.Side.{Side}
-use Rattle.app_queue.specs.Queues.{Shape, RingsStay, IsOther, OtherRingsStay}
+use Rattle.app_queue.specs.Queues.{Shape}
 use Rattle.app_queue.specs.Parts.{RingParts}
 use Rattle.app_queue.specs.FrameLaws.{RingsStayLaw, RingStepLaw}
 use Rattle.app_queue.proofs.ForEach.{at_ring}

@@ -1,6 +1,5 @@
 -- What a turn at a ring of a queue does to the hand of its seat.
-use Rattle.std.proofs.Common.{ℕ, ◌≡◌, ◌==◌, List, [], ◌∷◌, refl, ap, ◌∙◌}
-use Rattle.unit_model.specs.Weights.{without_first}
+use Rattle.std.proofs.Common.{ℕ, ◌≡◌, List, [], ◌∷◌, refl, ap, ◌∙◌}
 use Rattle.nncq_ring.specs.declared.turns.PopTurn.{PopTurn}
 use Rattle.nncq_ring.specs.declared.turns.PopTurn.TheVariants as pop
 use Rattle.nncq_ring.specs.declared.turns.PushTurn.{PushTurn}

@@ -5,8 +5,6 @@ use mathlib.Core.Option.{some}
 use lib.ListN.{get_elem?}
 use Rattle.unit_model.specs.Sharing.{Holds}
 use Rattle.unit_model.specs.Weights.{weigh, one_if}
-use Rattle.nncq_ring.specs.Words.{Words}
-use Rattle.app_queue.specs.declared.side.Side.{Side}
 use Rattle.app_queue.specs.declared.side.Side.TheVariants.{Free}
 use Rattle.app_queue.specs.Queues.{Shape, QueueWords}
 

@@ -9,8 +9,7 @@ use Rattle.nncq_ring.specs.Notes.{RingPart}
 use Rattle.nncq_ring.specs.Rule.{Emptied}
 use Rattle.nncq_ring.specs.Words.{Words, IsWellFormed, logical_tail}
 use Rattle.app_queue.specs.declared.side.Side.{Side}
-use Rattle.app_queue.specs.declared.side.Side.TheVariants.{Free}
-use Rattle.app_queue.specs.Queues.{Shape, QueueWords, RingsStay, IsOther, OtherRingsStay, WordsStay, SetsWord}
+use Rattle.app_queue.specs.Queues.{Shape, RingsStay, IsOther, OtherRingsStay, WordsStay, SetsWord}
 use Rattle.app_queue.specs.Parts.{RingParts, HasMoved, RingHistories, lines_weight, ItemsOwned, FreeUntagged, TagsCounted, TagsKnown, WordsKnown}
 use Rattle.app_queue.specs.Arms.{Arm, ArmsOfQueue}
 

@@ -1,6 +1,6 @@
 -- The words of queues by what they mean, and what a step changes of them, as facts at points. Each queue has two rings, and each
 -- of its items a tag, a run and a part. Only queues below their number count, and only items below the number of their queue.
-use Rattle.std.specs.Prelude.{ℕ, ◌≡◌, ◌≢◌, ◌<◌, ◌⊎◌}
+use Rattle.std.specs.Prelude.{ℕ, ◌≢◌, ◌<◌, ◌⊎◌}
 use Rattle.nncq_ring.specs.Words.{Words, SameWords}
 use Rattle.tracking_word.specs.Words.{Sets, Stays}
 use Rattle.app_queue.specs.declared.side.Side.{Side}

@@ -8,7 +8,6 @@ use Rattle.nncq_ring.specs.declared.view.RingEvent.TheVariants.{SawTail, SawHead
 use Rattle.nncq_ring.specs.Moments.{PutLast, TookFirst, WasEmpty, WasEntry, WasHead, WasTail}
 use Rattle.nncq_ring.specs.Shown.{SawPlace}
 use Rattle.app_queue.specs.declared.side.Side.{Side}
-use Rattle.app_queue.specs.declared.view.ItemEvent.{ItemEvent}
 use Rattle.app_queue.specs.declared.view.ItemEvent.TheVariants.{RunNoted, PartNoted, TagNoted}
 use Rattle.app_queue.specs.declared.view.QueueView.{QueueView}
 use Rattle.app_queue.specs.Views.{held_by, log_at, last_tag, last_run, last_part, after, settling, makes}

@@ -1,4 +1,4 @@
-use Rattle.std.proofs.Common.{ℕ, ◌≡◌, ◌+◌, ◌%◌, ◌<◌, ◌∙◌, inl, inr, ⊎_elim, List, length, slice_index, set, ap, arith, get_or-set_same, get_or-set_other}
+use Rattle.std.proofs.Common.{ℕ, ◌+◌, ◌%◌, ◌<◌, ◌∙◌, inl, inr, ⊎_elim, List, length, slice_index, set, ap, arith, get_or-set_same, get_or-set_other}
 use Rattle.std.proofs.lemmas.Bool.{cases_eq}
 use Rattle.app_queue.proofs.opening.fill_free.Goals as goal
 

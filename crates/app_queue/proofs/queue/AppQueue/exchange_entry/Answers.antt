@@ -1,4 +1,4 @@
-use Rattle.std.proofs.Common.{ℕ, ◌≡◌, ◌≢◌, ◌+◌, ◌-◌, ◌/◌, ◌%◌, ◌==◌, ◌∙◌, inl, inr, ap, sym, subst, arith, div-add-mod'}
+use Rattle.std.proofs.Common.{ℕ, ◌≡◌, ◌+◌, ◌-◌, ◌%◌, ◌==◌, ◌∙◌, inl, inr, ap, sym, subst, arith, div-add-mod'}
 use Rattle.std.proofs.lemmas.Bool.{cases_eq}
 use prog.Atomic.{either}
 use Rattle.atomic_table.specs.Table.{Allows}

@@ -1,4 +1,4 @@
-use Rattle.std.proofs.Common.{ℕ, ◌≡◌, ◌≢◌, ◌+◌, ◌*◌, ◌<◌, ◌%◌, ◌∙◌, inl, inr, ap, sym, subst, arith, mod-lt}
+use Rattle.std.proofs.Common.{ℕ, ◌≡◌, ◌+◌, ◌*◌, ◌<◌, ◌%◌, ◌∙◌, inl, inr, ap, sym, subst, arith, mod-lt}
 use Rattle.std.proofs.lemmas.Bool.{cases_eq}
 use Rattle.app_queue.specs.declared.view.QueueView.{QueueView}
 use Rattle.app_queue.specs.Views.{HoldsBelow}

@@ -1,4 +1,4 @@
-use Rattle.std.proofs.Common.{ℕ, ◌≡◌, ◌+◌, ◌*◌, ◌<◌, ◌∙◌, ap, sym, subst, arith}
+use Rattle.std.proofs.Common.{◌+◌, ◌*◌, ◌<◌, ◌∙◌, ap, sym, subst, arith}
 use Rattle.app_queue.specs.declared.view.QueueView.{QueueView}
 use Rattle.app_queue.specs.Views.{HoldsBelow}
 use Rattle.app_queue.proofs.ItemSteps.{sees_tag}

@@ -1,4 +1,4 @@
-use Rattle.std.proofs.Common.{ℕ, ◌≡◌, ◌<◌, ◌+◌, ◌*◌, ◌∙◌, ap, sym, subst, arith}
+use Rattle.std.proofs.Common.{ℕ, ◌≡◌, ◌<◌, ◌∙◌, ap, sym, subst, arith}
 use Rattle.atomic_table.specs.Table.{Allows}
 use Rattle.app_queue.specs.Layout.{word_at, word_count}
 use Rattle.app_queue.specs.Rule.{QueueHolds}

@@ -1,4 +1,4 @@
-use Rattle.std.proofs.Common.{ℕ, ◌≡◌, ◌+◌, ◌≤◌, ◌<◌, ◌^◌, ◌∙◌, ap, sym, subst, List, arith}
+use Rattle.std.proofs.Common.{ℕ, ◌+◌, ◌≤◌, ◌<◌, ◌^◌, sym, subst, List, arith}
 use Rattle.app_queue.specs.Opening.{IsFirst}
 use Rattle.app_queue.proofs.QueueSeats.{opens}
 use Rattle.app_queue.proofs.queue.AppQueue.open.Goals as goal
