@@ -1,0 +1,16 @@
+pub mod ForEach
+pub mod RingFrames
+pub mod HistoryFrames
+pub mod ItemFrames
+pub mod TagFrames
+pub mod KnownFrames
+pub mod ArmFrames
+pub mod ArmSeats
+pub mod Places
+pub mod QueueViews
+pub mod QueueSteps
+pub mod ItemSteps
+pub mod QueueSeats
+pub mod FirstWords
+pub mod HandLaws
+pub mod Turned

@@ -1,0 +1,6 @@
+use Rattle.std.proofs.Common.{ℕ}
+use Rattle.app_queue.proofs.RingFrames.{rings_stay}
+use Rattle.app_queue.proofs.laws.rings_stay.Goals as goal
+
+pub returns : goal.returns
+returns c = rings_stay ℕ

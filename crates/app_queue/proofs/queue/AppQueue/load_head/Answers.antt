@@ -1,0 +1,21 @@
+use Rattle.std.proofs.Common.{◌∙◌, ap, sym, subst}
+use Rattle.app_queue.specs.Views.{HoldsBelow}
+use Rattle.app_queue.specs.declared.view.QueueView.{QueueView}
+use Rattle.app_queue.proofs.QueueSteps.{sees_head}
+use Rattle.app_queue.proofs.QueueViews.{below_same}
+use Rattle.app_queue.proofs.queue.AppQueue.load_head.Goals as goal
+
+pub load_word-requires-clause-allowed : goal.load_word-requires-clause-allowed
+load_word-requires-clause-allowed c =
+    let table = c.args.self.now.table.shared in
+    let seat = c.args.seat.now.seat in
+    λ s holds homes at fits. sees_head table.key seat.id seat.me.0 seat.me.1 s holds at c.args.side
+
+pub invariant_of-seat : goal.invariant_of-seat
+invariant_of-seat c =
+    let seat = c.args.seat.now in
+    let own = c.load_word.ensures.own in
+    let same = ap (λ (v : QueueView). v.held) c.load_word.ensures.told.view in
+    record {
+      sound = (own.1 ∙ seat.sound.0, subst (λ (id : _). HoldsBelow id.words c.load_word.new.seat.me.0) (sym own.0) (below_same seat.seat.table_id.words seat.seat.me.0 c.load_word.new.seat.me.0 same seat.sound.1));
+    }

@@ -1,0 +1,6 @@
+use Rattle.app_queue.specs.Told.{SeesTag}
+use Rattle.app_queue.proofs.Places.{number_of}
+use Rattle.app_queue.proofs.queue.AppQueue.load_tag.Given as goal
+
+abbrev pub ghosts-load_word : goal.ghosts-load_word
+ghosts-load_word a = record { tells = SeesTag (number_of a.place) a.seat.now.me.0 }

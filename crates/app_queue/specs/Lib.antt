@@ -1,0 +1,12 @@
+pub mod Queues
+pub mod Parts
+pub mod Arms
+pub mod FrameLaws
+pub mod Layout
+pub mod Opening
+pub mod Views
+pub mod Rule
+pub mod Told
+pub mod Hands
+pub mod Seats
+pub mod Ends
