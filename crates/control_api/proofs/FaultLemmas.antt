@@ -52,9 +52,9 @@ mutual
       for_some_text (table.row p).items (broken 1) (λ q. items_fault table context q 0 ds) IsUtf8-nil (λ q. items_text table context q 0 ds h)
   value_text table context p (object ms) h =
       for_some_text (table.row p).members (broken 1)
-        (λ ns. or_then (broken_if (not (has_required (table.entries p) ms)) 3) (or_then (broken_if (not (is_choice_at table p ms)) 6) (members_fault table context (table.entries p) ns [] ms)))
-        IsUtf8-nil
-        (λ ns. or_text _ _ (broken_if_text (not (has_required (table.entries p) ms)) 3) (or_text _ _ (broken_if_text (not (is_choice_at table p ms)) 6) (members_text table context (table.entries p) ns [] ms h)))
+      (λ ns. or_then (broken_if (not (has_required (table.entries p) ms)) 3) (or_then (broken_if (not (is_choice_at table p ms)) 6) (members_fault table context (table.entries p) ns [] ms)))
+      IsUtf8-nil
+      (λ ns. or_text _ _ (broken_if_text (not (has_required (table.entries p) ms)) 3) (or_text _ _ (broken_if_text (not (is_choice_at table p ms)) 6) (members_text table context (table.entries p) ns [] ms h)))
 
   items_text : (table : Table) (context : Context) (p : Place) (i : ℕ) (ds : Items) → AreDocuments ds → HasText (items_fault table context p i ds)
   items_text table context p i no_items h = tt
@@ -65,9 +65,9 @@ mutual
   members_text table context entries ns earlier no_members h = tt
   members_text table context entries ns earlier (member name d ms) h =
       or_text _ _
-        (below_text name (for_some (place_of entries ns (is_again earlier name) name) (broken 2) (λ p. value_fault table context p d)) h.0
-          (for_some_text (place_of entries ns (is_again earlier name) name) (broken 2) (λ p. value_fault table context p d) IsUtf8-nil (λ p. value_text table context p d h.1)))
-        (members_text table context entries ns (earlier ++ name ∷ []) ms h.3)
+      (below_text name (for_some (place_of entries ns (is_again earlier name) name) (broken 2) (λ p. value_fault table context p d)) h.0
+      (for_some_text (place_of entries ns (is_again earlier name) name) (broken 2) (λ p. value_fault table context p d) IsUtf8-nil (λ p. value_text table context p d h.1)))
+      (members_text table context entries ns (earlier ++ name ∷ []) ms h.3)
 
 pub fault_text : (document : Data) (names : List (List ℕ)) (fault : Invalid) → IsDocument document → fault_of document names ≡ Some fault → IsUtf8 fault.path
 fault_text document names fault h is =

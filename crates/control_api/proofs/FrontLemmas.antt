@@ -47,9 +47,13 @@ plain bytes n e other =
 abbrev told_reading : List ℕ → Bool → NextUnit → Reading
 told_reading bytes begun unit = behind_unit (record (reading_at_end bytes) { limit = kept_limit begun None content_limit }) unit
 
-second_answer : (bytes : List ℕ) (begun due : Bool) (found : Found) (units : ℕ → NextUnit)
-    → due ≡ true → units content_limit ≡ record { continue_due = due; found = found }
-    → unit_answer (told_reading bytes begun (record { continue_due = due; found = found })) (units (limit_or (told_reading bytes begun (record { continue_due = due; found = found })).limit content_limit)) ≡ answer_at nowhere nowhere found
+-- whatever tells the unit of some bytes, the reading is that of the same bytes
+abbrev answer_behind : (List ℕ → Bool → ℕ → NextUnit) → Reading → Next
+answer_behind units r = unit_answer r (units r.unread r.ended (limit_or r.limit content_limit))
+
+second_answer : (bytes : List ℕ) (begun due : Bool) (found : Found) (units : List ℕ → Bool → ℕ → NextUnit)
+    → due ≡ true → units bytes true content_limit ≡ record { continue_due = due; found = found }
+    → answer_behind units (told_reading bytes begun (record { continue_due = due; found = found })) ≡ answer_at nowhere nowhere found
 second_answer bytes true true found units e u = ap (unit_answer (told_reading bytes true (record { continue_due = true; found = found }))) u
 second_answer bytes false true found units e u = ap (unit_answer (told_reading bytes false (record { continue_due = true; found = found }))) u
 second_answer bytes begun false found units e u = absurd (cc e)
@@ -57,7 +61,7 @@ second_answer bytes begun false found units e u = absurd (cc e)
 pub behind_told : (bytes : List ℕ) → (next_unit bytes true content_limit).continue_due ≡ true
     → next_answer (next_reading (reading_at_end bytes) content_limit) content_limit ≡ answer_at nowhere nowhere (next_unit bytes true content_limit).found
 behind_told bytes due =
-    second_answer bytes (head_begun bytes) (next_unit bytes true content_limit).continue_due (next_unit bytes true content_limit).found (next_unit bytes true) due refl
+    second_answer bytes (head_begun bytes) (next_unit bytes true content_limit).continue_due (next_unit bytes true content_limit).found next_unit due refl
 
 -- ---- what it means
 

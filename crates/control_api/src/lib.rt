@@ -2,7 +2,7 @@
 #![tactic(auto)]
 
 mod change;
-mod control;
+mod connection;
 mod front;
 mod keys;
 mod laws;
@@ -13,5 +13,5 @@ mod reply;
 #[cfg(test)]
 mod tests;
 
-pub use control::control;
+pub use connection::control;
 pub use laws::decided_requests_stay;

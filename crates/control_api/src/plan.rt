@@ -143,7 +143,9 @@ fn plan_document(alloc: Global, book: &Book, document: Tree) -> Result<Plan, All
     book.is_book();
     match validate(alloc, &document, book.names()) {
         Ok(conf) => Ok(Plan::Accept(document, conf)),
-        Err(ConfFault::Invalid(fault)) => Ok(Plan::Refuse(Refusal::Broken(fault))),
-        Err(ConfFault::Memory) => Err(AllocError),
+        Err(fault) => match fault {
+            ConfFault::Invalid(broken) => Ok(Plan::Refuse(Refusal::Broken(broken))),
+            ConfFault::Memory => Err(AllocError),
+        },
     }
 }
