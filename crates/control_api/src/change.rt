@@ -33,7 +33,8 @@ pub(crate) fn put_at(
 ) -> Result<Change, AllocError>
     requires document { IsDocument (data_of document.now) }
     requires value { IsDocument (data_of value) }
-    ensures is { IfOk result (λ change. change_of change ≡ change_at keys.items (paths.put keys.items (data_of value) (data_of document.now))) }
+    ensures is { IfOk result (λ change. change_of change
+        ≡ change_at keys.items (paths.put keys.items (data_of value) (data_of document.now))) }
     ensures sound { IfOk result IsSoundChange }
 {
     if keys.is_empty() {
@@ -60,7 +61,8 @@ pub(crate) fn append_at(
 ) -> Result<Change, AllocError>
     requires document { IsDocument (data_of document.now) }
     requires value { IsDocument (data_of value) }
-    ensures is { IfOk result (λ change. change_of change ≡ change_at keys.items (paths.append keys.items (data_of value) (data_of document.now))) }
+    ensures is { IfOk result (λ change. change_of change
+        ≡ change_at keys.items (paths.append keys.items (data_of value) (data_of document.now))) }
     ensures sound { IfOk result IsSoundChange }
 {
     let Some(path) = path_of(keys) else {
@@ -83,7 +85,8 @@ pub(crate) fn remove_at(
     keys: Vec<Bytes>,
 ) -> Result<Change, AllocError>
     requires { IsDocument (data_of document.now) }
-    ensures is { IfOk result (λ change. change_of change ≡ change_at keys.items (paths.remove keys.items (data_of document.now))) }
+    ensures is { IfOk result (λ change. change_of change
+        ≡ change_at keys.items (paths.remove keys.items (data_of document.now))) }
     ensures sound { IfOk result IsSoundChange }
 {
     if keys.is_empty() {

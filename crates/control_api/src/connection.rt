@@ -23,8 +23,10 @@ use unit_types::{Bytes, Request};
 /// The reply and the documents are those of `control_reply`; what is refused leaves the documents. Fails for want of memory
 /// alone; the book is then as before.
 pub fn control(alloc: Global, book: &mut Book, request: &[u8]) -> Result<Bytes, AllocError>
-    ensures reply { IfOk result (λ reply. reply ≡ (control_reply (documents_of book.old) book.old.names request.now true).reply) }
-    ensures documents { IfOk result (λ _. documents_of book.new ≡ (control_reply (documents_of book.old) book.old.names request.now true).documents) }
+    ensures reply { IfOk result (λ reply. reply
+        ≡ (control_reply (documents_of book.old) book.old.names request.now true).reply) }
+    ensures documents { IfOk result (λ _. documents_of book.new
+        ≡ (control_reply (documents_of book.old) book.old.names request.now true).documents) }
     ensures names { book.new.names ≡ book.old.names }
     ensures err { OnErr result (book.new ≡ book.old) }
 {
@@ -51,8 +53,10 @@ fn reply_to(
     mut reply: Bytes,
 ) -> Result<Bytes, AllocError>
     requires { IsSoundNext next }
-    ensures reply { IfOk result (λ bytes. bytes ≡ reply ++ (next_outcome (documents_of book.old) book.old.names next).reply) }
-    ensures documents { IfOk result (λ _. documents_of book.new ≡ (next_outcome (documents_of book.old) book.old.names next).documents) }
+    ensures reply { IfOk result (λ bytes. bytes ≡ reply
+        ++ (next_outcome (documents_of book.old) book.old.names next).reply) }
+    ensures documents { IfOk result (λ _. documents_of book.new
+        ≡ (next_outcome (documents_of book.old) book.old.names next).documents) }
     ensures names { book.new.names ≡ book.old.names }
     ensures err { OnErr result (book.new ≡ book.old) }
 {
@@ -75,8 +79,12 @@ fn reply_to_request(
     request: &Request,
     reply: Bytes,
 ) -> Result<Bytes, AllocError>
-    ensures reply { IfOk result (λ bytes. bytes ≡ reply ++ (request_outcome (documents_of book.old) book.old.names request.now.method request.now.target request.now.body).reply) }
-    ensures documents { IfOk result (λ _. documents_of book.new ≡ (request_outcome (documents_of book.old) book.old.names request.now.method request.now.target request.now.body).documents) }
+    ensures reply { IfOk result (λ bytes. bytes ≡ reply
+        ++ (request_outcome (documents_of book.old) book.old.names request.now.method
+        request.now.target request.now.body).reply) }
+    ensures documents { IfOk result (λ _. documents_of book.new
+        ≡ (request_outcome (documents_of book.old) book.old.names request.now.method
+        request.now.target request.now.body).documents) }
     ensures names { book.new.names ≡ book.old.names }
     ensures err { OnErr result (book.new ≡ book.old) }
 {
@@ -94,8 +102,10 @@ fn follow(
     mut reply: Bytes,
 ) -> Result<Bytes, AllocError>
     requires { IsSoundPlan book.old.names plan }
-    ensures reply { IfOk result (λ bytes. bytes ≡ reply ++ (answer_outcome (documents_of book.old) head (answer_in plan)).reply) }
-    ensures documents { IfOk result (λ _. documents_of book.new ≡ (answer_outcome (documents_of book.old) head (answer_in plan)).documents) }
+    ensures reply { IfOk result (λ bytes. bytes ≡ reply
+        ++ (answer_outcome (documents_of book.old) head (answer_in plan)).reply) }
+    ensures documents { IfOk result (λ _. documents_of book.new
+        ≡ (answer_outcome (documents_of book.old) head (answer_in plan)).documents) }
     ensures names { book.new.names ≡ book.old.names }
     ensures err { OnErr result (book.new ≡ book.old) }
 {

@@ -23,8 +23,10 @@ pub(crate) struct Front {
 ///
 /// Fails for want of memory alone.
 pub(crate) fn front_of(alloc: Global, bytes: &[u8]) -> Result<Front, AllocError>
-    ensures due { IfOk result (λ front. front.is_due ≡ (next_unit bytes.now true content_limit).continue_due) }
-    ensures next { IfOk result (λ front. front.next ≡ answer_at nowhere nowhere (next_unit bytes.now true content_limit).found) }
+    ensures due { IfOk result (λ front. front.is_due
+        ≡ (next_unit bytes.now true content_limit).continue_due) }
+    ensures next { IfOk result (λ front. front.next
+        ≡ answer_at nowhere nowhere (next_unit bytes.now true content_limit).found) }
     ensures sound { IfOk result (λ front. IsSoundNext front.next) }
 {
     laws_of_units();

@@ -72,7 +72,8 @@ fn decoded(alloc: Global, text: &[u8]) -> Result<Bytes, AllocError>
 
 /// The path of these keys; None where one of them is no text.
 pub(crate) fn path_of(keys: Vec<Bytes>) -> Option<Path>
-    ensures { MatchOption result (are_texts keys.items ≡ false) (λ path. (are_texts keys.items ≡ true) × (path ≡ keys.items)) }
+    ensures { MatchOption result (are_texts keys.items ≡ false) (λ path. (are_texts keys.items
+        ≡ true) × (path ≡ keys.items)) }
 {
     if are_texts(&keys) {
         Some(Path::of(keys))

@@ -39,7 +39,9 @@ pub(crate) enum Plan {
 ///
 /// Fails for want of memory alone.
 pub(crate) fn plan_for(alloc: Global, book: &Book, request: &Request) -> Result<Plan, AllocError>
-    ensures is { IfOk result (λ plan. answer_in plan ≡ answer_of (documents_of book.now) book.now.names request.now.method request.now.target request.now.body) }
+    ensures is { IfOk result (λ plan. answer_in plan
+        ≡ answer_of (documents_of book.now) book.now.names request.now.method request.now.target
+        request.now.body) }
     ensures sound { IfOk result (IsSoundPlan book.now.names) }
 {
     match keys_of(alloc, request.target.as_slice())? {
@@ -54,7 +56,9 @@ fn plan_at(
     keys: Vec<Bytes>,
     request: &Request,
 ) -> Result<Plan, AllocError>
-    ensures is { IfOk result (λ plan. answer_in plan ≡ method_answer (documents_of book.now) book.now.names keys.items request.now.body (spec.method_of request.now.method)) }
+    ensures is { IfOk result (λ plan. answer_in plan
+        ≡ method_answer (documents_of book.now) book.now.names keys.items request.now.body
+        (spec.method_of request.now.method)) }
     ensures sound { IfOk result (IsSoundPlan book.now.names) }
 {
     let body = request.body.as_slice();
@@ -68,7 +72,8 @@ fn plan_at(
 }
 
 fn plan_get(alloc: Global, book: &Book, keys: Vec<Bytes>) -> Result<Plan, AllocError>
-    ensures is { IfOk result (λ plan. answer_in plan ≡ shown_or_absent (value_at keys.items (newest_document (documents_of book.now)))) }
+    ensures is { IfOk result (λ plan. answer_in plan
+        ≡ shown_or_absent (value_at keys.items (newest_document (documents_of book.now)))) }
     ensures sound { IfOk result (IsSoundPlan book.now.names) }
 {
     let Some(path) = path_of(keys) else {
@@ -81,7 +86,10 @@ fn plan_get(alloc: Global, book: &Book, keys: Vec<Bytes>) -> Result<Plan, AllocE
 }
 
 fn plan_put(alloc: Global, book: &Book, keys: Vec<Bytes>, body: &[u8]) -> Result<Plan, AllocError>
-    ensures is { IfOk result (λ plan. answer_in plan ≡ body_answer (documents_of book.now) book.now.names keys.items (λ value. paths.put keys.items value (newest_document (documents_of book.now))) (document_of body.now)) }
+    ensures is { IfOk result (λ plan. answer_in plan
+        ≡ body_answer (documents_of book.now) book.now.names keys.items (λ value.
+        paths.put keys.items value (newest_document (documents_of book.now))) (document_of
+        body.now)) }
     ensures sound { IfOk result (IsSoundPlan book.now.names) }
 {
     match read_tree(alloc, body)? {
@@ -95,7 +103,10 @@ fn plan_put(alloc: Global, book: &Book, keys: Vec<Bytes>, body: &[u8]) -> Result
 }
 
 fn plan_post(alloc: Global, book: &Book, keys: Vec<Bytes>, body: &[u8]) -> Result<Plan, AllocError>
-    ensures is { IfOk result (λ plan. answer_in plan ≡ body_answer (documents_of book.now) book.now.names keys.items (λ value. paths.append keys.items value (newest_document (documents_of book.now))) (document_of body.now)) }
+    ensures is { IfOk result (λ plan. answer_in plan
+        ≡ body_answer (documents_of book.now) book.now.names keys.items (λ value.
+        paths.append keys.items value (newest_document (documents_of book.now))) (document_of
+        body.now)) }
     ensures sound { IfOk result (IsSoundPlan book.now.names) }
 {
     match read_tree(alloc, body)? {
@@ -109,7 +120,9 @@ fn plan_post(alloc: Global, book: &Book, keys: Vec<Bytes>, body: &[u8]) -> Resul
 }
 
 fn plan_delete(alloc: Global, book: &Book, keys: Vec<Bytes>) -> Result<Plan, AllocError>
-    ensures is { IfOk result (λ plan. answer_in plan ≡ change_answer (documents_of book.now) book.now.names (change_at keys.items (paths.remove keys.items (newest_document (documents_of book.now))))) }
+    ensures is { IfOk result (λ plan. answer_in plan
+        ≡ change_answer (documents_of book.now) book.now.names (change_at keys.items (paths.remove
+        keys.items (newest_document (documents_of book.now))))) }
     ensures sound { IfOk result (IsSoundPlan book.now.names) }
 {
     let change = remove_at(alloc, book.newest_document(), keys)?;
@@ -119,7 +132,8 @@ fn plan_delete(alloc: Global, book: &Book, keys: Vec<Bytes>) -> Result<Plan, All
 /// The plan for a change of the newest document.
 fn plan_change(alloc: Global, book: &Book, change: Change) -> Result<Plan, AllocError>
     requires { IsSoundChange change }
-    ensures is { IfOk result (λ plan. answer_in plan ≡ change_answer (documents_of book.now) book.now.names (change_of change)) }
+    ensures is { IfOk result (λ plan. answer_in plan
+        ≡ change_answer (documents_of book.now) book.now.names (change_of change)) }
     ensures sound { IfOk result (IsSoundPlan book.now.names) }
 {
     match change {
@@ -137,7 +151,8 @@ fn plan_change(alloc: Global, book: &Book, change: Change) -> Result<Plan, Alloc
 /// The plan for a document: it is accepted unless it breaks a rule.
 fn plan_document(alloc: Global, book: &Book, document: Tree) -> Result<Plan, AllocError>
     requires { IsDocument (data_of document) }
-    ensures is { IfOk result (λ plan. answer_in plan ≡ valid_answer (data_of document) (fault_of (data_of document) book.now.names)) }
+    ensures is { IfOk result (λ plan. answer_in plan
+        ≡ valid_answer (data_of document) (fault_of (data_of document) book.now.names)) }
     ensures sound { IfOk result (IsSoundPlan book.now.names) }
 {
     book.is_book();
