@@ -1,4 +1,2 @@
-mod TextLemmas
-mod FaultLemmas
 mod FrontLemmas
 mod KeyLemmas

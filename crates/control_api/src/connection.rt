@@ -1,11 +1,12 @@
 //! One control connection.
-ghost use Rattle.std.specs.Prelude.{◌≡◌, ◌++◌, true, IfOk, OnErr};
+ghost use Rattle.std.specs.Prelude.{◌≡◌, ◌++◌, ◌∷◌, [], true, IfOk, OnErr};
 ghost use Rattle.conf_book.specs.Books.{documents_of};
 ghost use Rattle.conf_tree.specs.Document.{IsDocument};
 ghost use Rattle.conf_tree.specs.View.{data_of};
 ghost use Rattle.conf_validate.specs.Answers.{IsConfiguration};
 ghost use Rattle.control_api.specs.Control.{answer_outcome, control_reply, request_outcome};
 ghost use Rattle.control_api.specs.Plans.{answer_in, IsSoundNext, IsSoundPlan, next_outcome};
+ghost use Rattle.control_api.specs.Replies.{done_text, reply_bytes};
 ghost use Rattle.http_front.specs.Written.{continue_bytes};
 
 use crate::front::front_of;
@@ -13,6 +14,8 @@ use crate::plan::{Plan, plan_for};
 use crate::refusal::Refusal;
 use crate::reply::{DONE, put_refusal, put_reply};
 use conf_book::Book;
+use conf_tree::Tree;
+use conf_validate::Conf;
 use http_front::{Next, continue_reply, is_head_request};
 use std::alloc::{AllocError, Global};
 use unit_types::{Bytes, Request};
@@ -93,7 +96,7 @@ fn reply_to_request(
     follow(alloc, book, plan, head, reply)
 }
 
-/// Writes the reply of a plan, and then publishes what is accepted.
+/// Does what is planned.
 fn follow(
     alloc: Global,
     book: &mut Book,
@@ -110,12 +113,36 @@ fn follow(
     ensures err { OnErr result (book.new ≡ book.old) }
 {
     match plan {
-        Plan::Show(text) => put_reply(alloc, head, 200, text, &mut reply)?,
-        Plan::Refuse(refusal) => put_refusal(alloc, head, refusal, &mut reply)?,
-        Plan::Accept(document, conf) => {
-            put_reply(alloc, head, 200, Bytes::copy_of(alloc, DONE)?, &mut reply)?;
-            book.publish(alloc, document, conf)?;
+        Plan::Show(text) => {
+            put_reply(alloc, head, 200, text, &mut reply)?;
+            Ok(reply)
         }
+        Plan::Refuse(refusal) => {
+            put_refusal(alloc, head, refusal, &mut reply)?;
+            Ok(reply)
+        }
+        Plan::Accept(document, conf) => accept(alloc, book, document, conf, head, reply),
     }
+}
+
+/// Writes the reply of an accepted change, and then publishes it, so that nothing is published without a reply.
+fn accept(
+    alloc: Global,
+    book: &mut Book,
+    document: Tree,
+    conf: Conf,
+    head: bool,
+    mut reply: Bytes,
+) -> Result<Bytes, AllocError>
+    requires document { IsDocument (data_of document) }
+    requires said { IsConfiguration (data_of document) book.old.names conf }
+    ensures reply { IfOk result (λ bytes. bytes ≡ reply ++ reply_bytes head 200 done_text) }
+    ensures documents { IfOk result (λ _. documents_of book.new
+        ≡ documents_of book.old ++ data_of document ∷ []) }
+    ensures names { book.new.names ≡ book.old.names }
+    ensures err { OnErr result (book.new ≡ book.old) }
+{
+    put_reply(alloc, head, 200, Bytes::copy_of(alloc, DONE)?, &mut reply)?;
+    book.publish(alloc, document, conf)?;
     Ok(reply)
 }

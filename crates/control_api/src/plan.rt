@@ -17,7 +17,7 @@ use crate::method::{Method, method_of};
 use crate::refusal::Refusal;
 use conf_book::Book;
 use conf_tree::{Tree, get, read_tree, write_tree};
-use conf_validate::{Conf, ConfFault, validate};
+use conf_validate::{Conf, ConfFault, paths_of_faults_are_texts, validate};
 use std::alloc::{AllocError, Global};
 use unit_types::{Bytes, Request};
 
@@ -156,6 +156,7 @@ fn plan_document(alloc: Global, book: &Book, document: Tree) -> Result<Plan, All
     ensures sound { IfOk result (IsSoundPlan book.now.names) }
 {
     book.is_book();
+    paths_of_faults_are_texts();
     match validate(alloc, &document, book.names()) {
         Ok(conf) => Ok(Plan::Accept(document, conf)),
         Err(fault) => match fault {

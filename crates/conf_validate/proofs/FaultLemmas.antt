@@ -14,7 +14,7 @@ use Rattle.conf_validate.specs.declared.place.Names.{Names}
 use Rattle.conf_validate.specs.declared.place.Place.{Place}
 use Rattle.conf_validate.specs.declared.place.Place.TheVariants as place
 use Rattle.conf_validate.specs.declared.place.Range.{Range}
-use Rattle.control_api.proofs.TextLemmas.{decimal_text, level_text}
+use Rattle.conf_validate.proofs.PathLemmas.{decimal_text, level_text}
 
 abbrev pub HasText : Option Invalid → Type 0
 HasText fault = IfSome fault (λ f. IsUtf8 f.path)
