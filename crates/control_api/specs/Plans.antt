@@ -6,8 +6,8 @@ use Rattle.conf_tree.specs.Paths as paths
 use Rattle.conf_tree.specs.View.{data_of}
 use Rattle.conf_validate.specs.Answers.{IsConfiguration}
 use Rattle.serde_json.specs.Data.{Data}
-use Rattle.http_front.specs.declared.reader.Next.{Next}
-use Rattle.http_front.specs.declared.reader.Next.TheVariants as next
+use Rattle.http_front.specs.declared.next_unit.Next.{Next}
+use Rattle.http_front.specs.declared.next_unit.Next.TheVariants as next
 use Rattle.control_api.specs.Control.{Answer, shown, accepted, refused, Outcome, bad_outcome, no_outcome, request_outcome}
 use Rattle.control_api.specs.declared.change.Change.{Change}
 use Rattle.control_api.specs.declared.change.Change.TheVariants as change
