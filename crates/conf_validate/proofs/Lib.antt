@@ -12,3 +12,5 @@ mod PlainLemmas
 pub mod PlainPassLemmas
 mod GoalLemmas
 mod EntryLemmas
+mod PathLemmas
+mod FaultLemmas

@@ -8,6 +8,7 @@ mod current;
 mod destinations;
 mod entries;
 mod fault;
+mod fault_laws;
 mod forms;
 mod laws;
 mod lower;
@@ -30,6 +31,7 @@ mod walk;
 pub use conf::{Action, Application, Changes, Conf, Destination, Goal, Listener, Step};
 pub use current::Current;
 pub use fault::{ConfFault, Invalid};
+pub use fault_laws::paths_of_faults_are_texts;
 pub use forms::is_log_format;
 pub use laws::{
     configurations_ask_for_handlers, documents_without_changes_change_nothing, passes_have_goals,
