@@ -1,1 +1,4 @@
 pub mod Books
+pub mod History
+pub mod Lists
+pub mod Newest

@@ -1,0 +1,21 @@
+-- How long the list of a book is.
+use Rattle.std.proofs.Common.{◌≡◌, ℕ, ◌+◌, ◌<◌, List, [], ◌∷◌, length, map, refl, ap, ◌∙◌, sym, arith}
+use Rattle.std.proofs.lemmas.List.{length-map}
+use Rattle.conf_tree.specs.View.{data_of}
+use Rattle.conf_validate.specs.Configuration.{Configuration, configuration_of}
+use Rattle.conf_book.specs.Books.{Publications, IsBook, numbered_from, documents_of}
+use Rattle.conf_book.specs.Lists.{list_of}
+
+length-numbered_from : (n : ℕ) (cs : List Configuration) → length (numbered_from n cs) ≡ length cs
+length-numbered_from n [] = refl
+length-numbered_from n (c ∷ cs) = ap (λ (k : ℕ). k + 1) (length-numbered_from (n + 1) cs)
+
+-- a book has a configuration for each document
+pub length-configurations : (book : Publications) → IsBook book → length book.configurations ≡ length book.documents
+length-configurations book is =
+    ap length is.said
+    ∙ (length-numbered_from 0 (map configuration_of (documents_of book))
+    ∙ (length-map (documents_of book) configuration_of ∙ length-map book.documents data_of))
+
+pub length-list_of : (book : Publications) → IsBook book → length (list_of book) ≡ length book.documents
+length-list_of book is = length-map book.configurations (λ c. c.1) ∙ length-configurations book is
