@@ -1,5 +1,5 @@
 -- How long the list of a book is.
-use Rattle.std.proofs.Common.{◌≡◌, ℕ, ◌+◌, ◌<◌, List, [], ◌∷◌, length, map, refl, ap, ◌∙◌, sym, arith}
+use Rattle.std.proofs.Common.{◌≡◌, ℕ, suc, ◌+◌, ◌<◌, List, [], ◌∷◌, length, map, refl, ap, ◌∙◌, arith}
 use Rattle.std.proofs.lemmas.List.{length-map}
 use Rattle.conf_tree.specs.View.{data_of}
 use Rattle.conf_validate.specs.Configuration.{Configuration, configuration_of}
@@ -8,7 +8,7 @@ use Rattle.conf_book.specs.Lists.{list_of}
 
 length-numbered_from : (n : ℕ) (cs : List Configuration) → length (numbered_from n cs) ≡ length cs
 length-numbered_from n [] = refl
-length-numbered_from n (c ∷ cs) = ap (λ (k : ℕ). k + 1) (length-numbered_from (n + 1) cs)
+length-numbered_from n (c ∷ cs) = ap suc (length-numbered_from (n + 1) cs)
 
 -- a book has a configuration for each document
 pub length-configurations : (book : Publications) → IsBook book → length book.configurations ≡ length book.documents
@@ -19,3 +19,9 @@ length-configurations book is =
 
 pub length-list_of : (book : Publications) → IsBook book → length (list_of book) ≡ length book.documents
 length-list_of book is = length-map book.configurations (λ c. c.1) ∙ length-configurations book is
+
+-- a list that shows the configurations of a book has an entry
+pub some_entry : {A : Type 0} (f : A → ℕ × Configuration) (xs : List A) (book : Publications) → IsBook book → map f xs ≡ book.configurations → 0 < length xs
+some_entry f xs book is shows =
+    let count : length (map f xs) ≡ length book.documents = ap length shows ∙ length-configurations book is in
+    omega (arith, is.begun, length-map xs f)

@@ -43,7 +43,8 @@ impl Absorb<Edition> for Edition {
 
 /// This configuration under another number; nothing of it is copied.
 fn under(number: u64, current: &Current) -> Result<Current, AllocError>
-    ensures { IfOk result (λ c. (c.number ≡ number) × (arc_value c.conf ≡ arc_value current.now.conf)) }
+    ensures { IfOk result (λ c. (c.number ≡ number)
+        × (arc_value c.conf ≡ arc_value current.now.conf)) }
 {
     Ok(Current {
         number,
@@ -53,8 +54,10 @@ fn under(number: u64, current: &Current) -> Result<Current, AllocError>
 
 /// What was seen and then this configuration, if the history is no longer than what was seen.
 fn written<J: Naming>(head: &Head<J>, seen: &Front, count: u64, current: &Current) -> Option<Front>
-    requires { (seen.now.book ≡ J.history) × (count ≡ length seen.now.log) × (count < 2 ^ 64 - 1) }
-    ensures { IfSome result (λ s. (s.book ≡ J.history) × (s.log ≡ seen.now.log ++ arc_value current.now.conf ∷ [])) }
+    requires { (seen.now.book ≡ J.history) × (count ≡ length seen.now.log)
+        × (count < 2 ^ 64 - 1) }
+    ensures { IfSome result (λ s. (s.book ≡ J.history)
+        × (s.log ≡ seen.now.log ++ arc_value current.now.conf ∷ [])) }
 {
     let mut seen = seen.again();
     let mut offer: Offer<Entry, u64, Law, Nothing> = seen.plain::<Nothing, Current, Add>(current);
@@ -73,7 +76,8 @@ impl Edition {
         current: &Current,
     ) -> Result<Edition, AllocError>
         requires { (seen.now.book ≡ J.history) × (seen.now.log ≡ []) }
-        ensures { IfOk result (λ e. (e.seen.book ≡ J.history) × (e.seen.log ≡ arc_value current.now.conf ∷ [])) }
+        ensures { IfOk result (λ e. (e.seen.book ≡ J.history)
+            × (e.seen.log ≡ arc_value current.now.conf ∷ [])) }
     {
         let last = under(0, current)?;
         match written(head, seen, 0, current) {
@@ -129,7 +133,8 @@ impl Edition {
     /// Fails for want of memory or of numbers, or where its list isn't the whole history.
     pub fn add<J: Naming>(&self, head: &Head<J>, current: &Current) -> Result<Edition, AllocError>
         requires { self.now.seen.book ≡ J.history }
-        ensures { IfOk result (λ e. (e.seen.book ≡ J.history) × (e.seen.log ≡ self.now.seen.log ++ arc_value current.now.conf ∷ [])) }
+        ensures { IfOk result (λ e. (e.seen.book ≡ J.history)
+            × (e.seen.log ≡ self.now.seen.log ++ arc_value current.now.conf ∷ [])) }
     {
         let count = self.len();
         if count == u64::MAX {

@@ -61,7 +61,8 @@ impl<J: Naming> ConfReader<J> {
             &self.seen,
             |inner, seen| -> (EditionReader<J>, Result<Option<Edition>, AllocError>)
                 requires { seen.now.seen.book ≡ J.history }
-                ensures { IfOk result.1 (λ o. IfSome o (λ e. (e.seen.book ≡ J.history) × IsPrefix seen.now.seen.log e.seen.log)) }
+                ensures { IfOk result.1 (λ o. IfSome o (λ e. (e.seen.book ≡ J.history)
+                    × IsPrefix seen.now.seen.log e.seen.log)) }
             { look::<J>(inner, seen) },
         );
         if let Some(edition) = newer? {
@@ -98,7 +99,8 @@ fn look<J: Naming>(
     seen: &Edition,
 ) -> (EditionReader<J>, Result<Option<Edition>, AllocError>)
     requires { seen.now.seen.book ≡ J.history }
-    ensures { IfOk result.1 (λ o. IfSome o (λ e. (e.seen.book ≡ J.history) × IsPrefix seen.now.seen.log e.seen.log)) }
+    ensures { IfOk result.1 (λ o. IfSome o (λ e. (e.seen.book ≡ J.history)
+        × IsPrefix seen.now.seen.log e.seen.log)) }
 {
     match reader.enter_as::<Of<J>>() {
         Ok(reading) => {
@@ -111,7 +113,8 @@ fn look<J: Naming>(
 
 fn newer_of(shown: &Edition, seen: &Edition) -> Result<Option<Edition>, AllocError>
     requires { seen.now.seen.book ≡ shown.now.seen.book }
-    ensures { IfOk result (λ o. IfSome o (λ e. (e.seen.book ≡ shown.now.seen.book) × IsPrefix seen.now.seen.log e.seen.log)) }
+    ensures { IfOk result (λ o. IfSome o (λ e. (e.seen.book ≡ shown.now.seen.book)
+        × IsPrefix seen.now.seen.log e.seen.log)) }
 {
     if shown.len() > seen.len() && seen.begins(shown) {
         Ok(Some(shown.another()?))

@@ -16,7 +16,7 @@ use std::marker::Model;
 use std::snapshot::Snapshot;
 use std::sync::Wait;
 
-/// What a book's readers in other threads see. A change reaches them by one step, and never a part of it.
+/// What readers in other threads see of a book. A reader finds one configuration as a whole, never a part of a change.
 ///
 /// Contracts see two lists of configurations, in which a number is an index: the published one, and the given one, which
 /// goes on where a `publish` failed. It isn't `Drop`: `end` ends it.
@@ -35,7 +35,9 @@ impl<J: Naming> Model for Shared<J> {
 
     ghost view = { λ s. (s.writer.desk.shown.value.seen.log, s.given.seen.log) };
 
-    ghost invariant = { λ s. (s.writer.desk.shown.value.seen.book ≡ J.history) × (s.given.seen.book ≡ J.history) × IsPrefix s.writer.desk.shown.value.seen.log s.given.seen.log };
+    ghost invariant = { λ s. (s.writer.desk.shown.value.seen.book ≡ J.history)
+        × (s.given.seen.book ≡ J.history)
+        × IsPrefix s.writer.desk.shown.value.seen.log s.given.seen.log };
 }
 
 /// Tells of one call of `publish`, which alone makes it. Contracts see the book as that call published it.
@@ -173,9 +175,11 @@ fn show<J: Naming, R: Wait>(
         writer,
         rt,
         |writer: EditionWriter<J>, rt: &R| -> (EditionWriter<J>, Result<(), AllocError>)
-            requires { (newest (λ e. e.seen) writer.desk.shown.value.seen (drop writer.behind writer.log.items)).book ≡ J.history }
+            requires { (newest (λ e. e.seen) writer.desk.shown.value.seen
+                (drop writer.behind writer.log.items)).book ≡ J.history }
             ensures { MatchResult result.1
-                (λ _. result.0.desk.shown.value.seen ≡ newest (λ e. e.seen) writer.desk.shown.value.seen (drop writer.behind writer.log.items))
+                (λ _. result.0.desk.shown.value.seen
+                ≡ newest (λ e. e.seen) writer.desk.shown.value.seen (drop writer.behind writer.log.items))
                 (λ _. result.0.desk.shown.value ≡ writer.desk.shown.value) }
         { show_pending::<J, R>(rt, writer) },
     )
@@ -186,9 +190,11 @@ fn show_pending<J: Naming, R: Wait>(
     rt: &R,
     writer: EditionWriter<J>,
 ) -> (EditionWriter<J>, Result<(), AllocError>)
-    requires { (newest (λ e. e.seen) writer.desk.shown.value.seen (drop writer.behind writer.log.items)).book ≡ J.history }
+    requires { (newest (λ e. e.seen) writer.desk.shown.value.seen
+        (drop writer.behind writer.log.items)).book ≡ J.history }
     ensures { MatchResult result.1
-        (λ _. result.0.desk.shown.value.seen ≡ newest (λ e. e.seen) writer.desk.shown.value.seen (drop writer.behind writer.log.items))
+        (λ _. result.0.desk.shown.value.seen
+        ≡ newest (λ e. e.seen) writer.desk.shown.value.seen (drop writer.behind writer.log.items))
         (λ _. result.0.desk.shown.value ≡ writer.desk.shown.value) }
 {
     writer.publish_as::<Of<J>, R>(rt)
