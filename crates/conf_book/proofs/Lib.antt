@@ -1,3 +1,3 @@
 pub mod AddingLemmas
-pub mod ListLemmas
+mod BookLemmas
 pub mod PrefixLemmas

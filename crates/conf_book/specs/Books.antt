@@ -1,9 +1,12 @@
 -- A book of configurations: the documents that were published, and what each of them says.
-use Rattle.std.specs.Prelude.{◌≡◌, ℕ, ◌+◌, ◌<◌, List, [], ◌∷◌, length, map, None, All}
+use Rattle.std.specs.Prelude.{◌≡◌, ℕ, ◌+◌, ◌<◌, List, [], ◌∷◌, length, map, None, All, refl}
+use Rattle.std.specs.Coded.{Coded, code_by, coded_list, coded_ℕ, coded×}
 use Rattle.serde_json.specs.Data.{Data, object, no_members}
 use Rattle.conf_tree.specs.Document.{IsDocument}
 use Rattle.conf_tree.specs.View.{data_of}
+use Rattle.conf_tree.specs.contracts.tree.Tree as tree
 use Rattle.conf_tree.specs.declared.tree.Tree.{Tree}
+use Rattle.conf_validate.specs.contracts.conf.Conf as conf
 use Rattle.conf_validate.specs.Configuration.{Configuration, configuration_of}
 use Rattle.conf_validate.specs.Valid.{fault_of}
 use Rattle.unit_types.specs.Limits.{IsShortName}
@@ -42,9 +45,9 @@ abbrev pub configurations_of : List Data → List (ℕ × Configuration)
 configurations_of documents = numbered_from 0 (map configuration_of documents)
 
 -- a document that breaks no rule, where these are the names of the handlers
-pub record IsPublishable (names : List (List ℕ)) (document : Data) : Type 0 where
-  pub document : IsDocument document
-  pub valid : fault_of document names ≡ None
+pub record IsPublishable (names : List (List ℕ)) (d : Data) : Type 0 where
+  pub document : IsDocument d
+  pub valid : fault_of d names ≡ None
 
 -- what each book keeps: short names, a first document, and documents that break no rule, each with what it says
 pub record IsBook (book : Publications) : Type 0 where
@@ -52,3 +55,12 @@ pub record IsBook (book : Publications) : Type 0 where
   pub begun : 0 < length book.documents
   pub publishable : All (IsPublishable book.names) (documents_of book)
   pub said : book.configurations ≡ configurations_of (documents_of book)
+
+-- the code of its value, by which a proof tells books apart
+abbrev pub publications_code : Coded Publications
+publications_code =
+    code_by (List Tree × (List (ℕ × Configuration) × List (List ℕ)))
+    (coded× (coded_list tree.the_row.coded) (coded× (coded_list (coded× coded_ℕ conf.the_row.coded)) (coded_list (coded_list coded_ℕ))))
+    (λ book. (book.documents, (book.configurations, book.names)))
+    (λ p. record { documents = p.0; configurations = p.1.0; names = p.1.1 })
+    (λ _. refl)

@@ -8,7 +8,7 @@ ghost use Rattle.conf_validate.specs.Current.{numbered};
 ghost use Rattle.unit_types.specs.Limits.{IsShortName};
 
 use conf_tree::{Tree, TreeMap};
-use conf_validate::{Conf, ConfFault, Current, validate};
+use conf_validate::{Conf, Current, validate};
 use std::alloc::{AllocError, Global};
 use std::marker::Model;
 use std::sync::Arc;
@@ -28,10 +28,12 @@ pub struct Book {
 
 impl Model for Book {
     ghost use Rattle.std.specs.Prelude.{map};
-    ghost use Rattle.conf_book.specs.Books.{IsBook, Publications};
+    ghost use Rattle.conf_book.specs.Books.{IsBook, Publications, publications_code};
     ghost use Rattle.conf_validate.specs.Current.{numbered};
 
     ghost Value = { Publications };
+
+    ghost coded = { publications_code };
 
     ghost view = { λ b. record { documents = b.documents.items; configurations = map numbered b.currents.items; names = b.names.items } };
 
@@ -151,10 +153,10 @@ fn first_conf(alloc: Global, document: &Tree, names: &[Bytes]) -> Result<Conf, A
     requires short { All IsShortName names.now }
     ensures { IfOk result (IsConfiguration first_document names.now) }
 {
+    // it breaks no rule, so that only memory can be wanting
     match validate(alloc, document, names) {
         Ok(conf) => Ok(conf),
-        Err(ConfFault::Invalid(_)) => unreachable!(),
-        Err(ConfFault::Memory) => Err(AllocError),
+        Err(_fault) => Err(AllocError),
     }
 }
 

@@ -55,12 +55,12 @@ impl Model for Published {
 
     ghost view = { λ p. p.book.value };
 
-    ghost invariant = { λ p. p.number + 1 ≡ length p.book.value.documents };
+    ghost invariant = { λ p. p.number + 1 ≡ length p.book.value.configurations };
 }
 
 impl Published {
     fn of(number: u64, book: &Book) -> Published
-        requires { number + 1 ≡ length book.now.documents }
+        requires { number + 1 ≡ length book.now.configurations }
         ensures { result ≡ book.now }
     {
         Published {
@@ -69,9 +69,9 @@ impl Published {
         }
     }
 
-    /// The number of the newest document that was published. It takes no memory.
+    /// The number of the newest configuration that was published. It takes no memory.
     pub fn number(&self) -> u64
-        ensures { result + 1 ≡ length self.now.documents }
+        ensures { result + 1 ≡ length self.now.configurations }
     {
         self.number
     }
@@ -115,7 +115,6 @@ impl<J: Naming> Shared<J> {
         ensures err { OnErr result (self.new.0 ≡ self.old.0) }
         ensures given { IsPrefix self.new.1 (list_of book.now) }
     {
-        book.is_book();
         let currents = book.currents();
         self.given.follow(&self.head, currents)?;
         let next = self.given.another()?;

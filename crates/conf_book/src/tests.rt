@@ -19,7 +19,7 @@ fn published(alloc: Global, book: &mut Book, text: &[u8]) -> Result<u64, Fail> {
     match read_tree(alloc, text)? {
         Some(tree) => match validate(alloc, &tree, book.names()) {
             Ok(conf) => Ok(book.publish(alloc, tree, conf)?),
-            Err(_) => Err("refused")?,
+            Err(_fault) => Err("refused")?,
         },
         None => Err("no document")?,
     }

@@ -1,0 +1,4 @@
+mod TextLemmas
+mod FaultLemmas
+mod FrontLemmas
+mod KeyLemmas

@@ -1,11 +1,11 @@
 //! The request at the front of the bytes.
 ghost use Rattle.std.specs.Prelude.{◌≡◌, true, IfOk};
 ghost use Rattle.control_api.specs.Control.{content_limit};
-ghost use Rattle.control_api.specs.Plans.{nowhere};
+ghost use Rattle.control_api.specs.Plans.{IsSoundNext, nowhere};
 ghost use Rattle.http_front.specs.NextUnit.{next_unit};
 ghost use Rattle.http_front.specs.Reading.{answer_at};
 
-use http_front::{Next, Reader};
+use http_front::{Next, Reader, laws_of_units};
 use std::alloc::{AllocError, Global};
 use unit_types::{Addr, Bytes};
 
@@ -25,7 +25,9 @@ pub(crate) struct Front {
 pub(crate) fn front_of(alloc: Global, bytes: &[u8]) -> Result<Front, AllocError>
     ensures due { IfOk result (λ front. front.is_due ≡ (next_unit bytes.now true content_limit).continue_due) }
     ensures next { IfOk result (λ front. front.next ≡ answer_at nowhere nowhere (next_unit bytes.now true content_limit).found) }
+    ensures sound { IfOk result (λ front. IsSoundNext front.next) }
 {
+    laws_of_units();
     let nowhere = Addr { ip: 0, port: 0 };
     let mut reader = Reader::over(Bytes::copy_of(alloc, bytes)?, nowhere, nowhere);
     reader.end();
