@@ -1,5 +1,5 @@
 //! Readers of published configurations, on one thread and in three.
-ghost use Rattle.std.specs.Prelude.{◌≡◌, IfOk};
+ghost use Rattle.std.specs.Prelude.{◌≡◌, ◌<◌, ◌≤◌, IfOk};
 ghost use Rattle.std.specs.Thread.{IsSync};
 ghost use mathlib.Core.List.{IsPrefix};
 ghost use Rattle.conf_book.specs.Lists.{list_of};
@@ -41,8 +41,8 @@ fn begun<J: Naming>(
     opened: Opened,
     readers: u32,
 ) -> Result<(Shared<J>, Book), AllocError>
-    requires { opened ≡ J.history }
-    requires { (0 < readers) × (readers ≤ 4) }
+    requires history { opened ≡ J.history }
+    requires readers { (0 < readers) × (readers ≤ 4) }
     ensures { IfOk result (λ r. IsPrefix r.0.1 (list_of r.1)) }
 {
     let book = Book::open(alloc, &no_names())?;
