@@ -49,9 +49,11 @@ pub struct Published {
 
 impl Model for Published {
     ghost use Rattle.std.specs.Prelude.{◌≡◌, ◌+◌, length};
-    ghost use Rattle.conf_book.specs.Books.{Publications};
+    ghost use Rattle.conf_book.specs.Books.{Publications, publications_code};
 
     ghost Value = { Publications };
+
+    ghost coded = { publications_code };
 
     ghost view = { λ p. p.book.value };
 

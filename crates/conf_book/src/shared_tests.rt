@@ -4,7 +4,7 @@ ghost use Rattle.std.specs.Thread.{IsSync};
 ghost use mathlib.Core.List.{IsPrefix};
 ghost use Rattle.conf_book.specs.Lists.{list_of};
 
-use crate::{Book, ConfReader, Naming, Opened, Shared};
+use crate::{Book, ConfReader, Naming, Opened, Published, Shared};
 use conf_tree::read_tree;
 use conf_validate::validate;
 use std::alloc::{AllocError, Global};
@@ -15,7 +15,7 @@ use std::thread::{Threads, join};
 use unit_types::Bytes;
 
 /// Publishes `{}` in the book once more.
-#[tactic(auto, using(crate::proofs::PrefixLemmas::one_more_begins, crate::proofs::PrefixLemmas::same_begins))]
+#[tactic(auto, using(crate::proofs::PrefixLemmas::same_begins))]
 fn change(alloc: Global, book: &mut Book) -> Result<(), AllocError>
     ensures { IsPrefix (list_of book.old) (list_of book.new) }
 {
@@ -81,25 +81,28 @@ fn found_by_one<J: Naming, R: Wait>(
     found
 }
 
-/// Publishes changes up to this number.
+/// Publishes changes up to this number, and tells of the last one.
 fn publish_to<J: Naming, R: Wait>(
     rt: &R,
     alloc: Global,
     shared: &mut Shared<J>,
     book: Book,
     number: u64,
-) -> u64
+) -> Option<Published>
     requires { IsPrefix shared.old.1 (list_of book) }
 {
     let mut book = book;
-    let mut published = 0;
+    let mut last = None;
     for _ in rt.forever() {
-        if published >= number {
-            break;
+        if let Ok(published) = publish_next(rt, alloc, shared, &mut book) {
+            let ends = published.number() >= number;
+            last = Some(published);
+            if ends {
+                break;
+            }
         }
-        published = publish_next(rt, alloc, shared, &mut book).unwrap_or(published);
     }
-    published
+    last
 }
 
 fn publish_next<J: Naming, R: Wait>(
@@ -107,12 +110,12 @@ fn publish_next<J: Naming, R: Wait>(
     alloc: Global,
     shared: &mut Shared<J>,
     book: &mut Book,
-) -> Result<u64, AllocError>
+) -> Result<Published, AllocError>
     requires { IsPrefix shared.old.1 (list_of book.old) }
     ensures { IsPrefix shared.new.1 (list_of book.new) }
 {
     change(alloc, book)?;
-    Ok(shared.publish(rt, book)?.number())
+    shared.publish(rt, book)
 }
 
 /// Enters until this number is found, and once more. It tells whether the numbers never fell.
@@ -155,13 +158,16 @@ fn beside<J: Naming + Send + Sync, R: Threads + Wait + Sync>(
     book: Book,
     readers: (ConfReader<J>, ConfReader<J>),
     number: u64,
-) -> (u64, ((ConfReader<J>, bool), (ConfReader<J>, bool)))
+) -> (
+    Option<Published>,
+    ((ConfReader<J>, bool), (ConfReader<J>, bool)),
+)
     requires { IsPrefix shared.old.1 (list_of book) }
 {
     let (one, other) = readers;
     join(
         rt,
-        || -> u64
+        || -> Option<Published>
             requires { IsPrefix shared.now.1 (list_of book) }
         { publish_to(rt, alloc, shared, book, number) },
         || -> ((ConfReader<J>, bool), (ConfReader<J>, bool))
@@ -186,6 +192,7 @@ fn seen_by_two<J: Naming + Send + Sync, R: Threads + Wait + Sync>(
     );
     shared.meet(rt, &mut one);
     shared.meet(rt, &mut other);
+    let last = last.map_or(0, |published| published.number());
     Ok((last, one.last(), other.last(), one_rises && other_rises))
 }
 

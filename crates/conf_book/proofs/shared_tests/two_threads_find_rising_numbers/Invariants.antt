@@ -2,4 +2,4 @@ use Rattle.conf_book.proofs.shared_tests.two_threads_find_rising_numbers.Given a
 
 -- the history that was just opened
 abbrev pub ghosts-seen_in_threads : goal.ghosts-seen_in_threads
-ghosts-seen_in_threads a = record { history = a.opened }
+ghosts-seen_in_threads g a = record { history = a.opened }

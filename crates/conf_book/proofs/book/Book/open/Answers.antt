@@ -6,7 +6,7 @@ use Rattle.conf_tree.proofs.Views.{data_of-Object}
 use Rattle.conf_validate.specs.Answers.{IsConfiguration}
 use Rattle.conf_validate.specs.Configuration.{Configuration}
 use Rattle.conf_validate.specs.Current.{numbered}
-use Rattle.serde_json.specs.Data.{object}
+use Rattle.serde_json.specs.Data.{Data, object}
 use Rattle.unit_types.specs.Limits.{IsShortName}
 use Rattle.conf_book.specs.Books.{first_document}
 use Rattle.conf_book.proofs.BookLemmas.{book_begun, book_with}
@@ -27,3 +27,9 @@ invariant_of-result c =
     subst (λ (cs : List (ℕ × Configuration)). book_with c.put_both.new.documents.items cs names) (sym confs)
     (subst (λ (ds : List Tree). book_with ds ((0, conf) ∷ []) names) (sym documents)
     (book_begun names document conf short first is))
+
+pub returns-clause-documents : goal.returns-clause-documents
+returns-clause-documents c =
+    let document = tree.Object c.new.result in
+    let documents : c.put_both.new.documents.items ≡ document ∷ [] = c.in_ok-put_both.ensures.documents ∙ ap (λ (ds : List Tree). ds ++ document ∷ []) c.new-documents.ensures.items in
+    ap (map data_of) documents ∙ ap (λ (d : Data). d ∷ []) (data_of-Object c.new.result ∙ ap object c.new.ensures)
