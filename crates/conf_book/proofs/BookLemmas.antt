@@ -44,7 +44,7 @@ length-numbered_from n (c ∷ cs) = ap suc (length-numbered_from (n + 1) cs)
 pub some_current : (xs : List Current) (documents : List Tree) → 0 < length documents → map numbered xs ≡ configurations_of (map data_of documents) → 0 < length xs
 some_current xs documents some said =
     let count : length (map numbered xs) ≡ length documents =
-    ap length said ∙ length-numbered_from 0 (map configuration_of (map data_of documents)) ∙ length-map (map data_of documents) configuration_of ∙ length-map documents data_of in
+        ap length said ∙ length-numbered_from 0 (map configuration_of (map data_of documents)) ∙ length-map (map data_of documents) configuration_of ∙ length-map documents data_of in
     omega (arith, length-map xs numbered)
 
 -- ---- one more document
@@ -64,7 +64,7 @@ said_more documents tree number conf n said =
     let ds = map data_of documents in
     let count : length (map configuration_of ds) ≡ length documents = length-map ds configuration_of ∙ length-map documents data_of in
     let pair : ◌≡◌ {A = ℕ × Configuration} (number, conf) (0 + length (map configuration_of ds), configuration_of (data_of tree)) =
-    ap (λ (k : ℕ). (k, conf)) (omega arith) ∙ ap (λ (c : Configuration). (0 + length (map configuration_of ds), c)) said in
+        ap (λ (k : ℕ). (k, conf)) (omega arith) ∙ ap (λ (c : Configuration). (0 + length (map configuration_of ds), c)) said in
     ap (λ (p : ℕ × Configuration). configurations_of ds ++ p ∷ []) pair
     ∙ sym (numbered_more 0 (map configuration_of ds) (configuration_of (data_of tree)))
     ∙ ap (numbered_from 0) (sym (map-append configuration_of ds (data_of tree ∷ [])))

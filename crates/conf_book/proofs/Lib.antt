@@ -1,3 +1,1 @@
-pub mod AddingLemmas
 mod BookLemmas
-pub mod PrefixLemmas

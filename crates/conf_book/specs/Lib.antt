@@ -1,4 +1,1 @@
 pub mod Books
-pub mod History
-pub mod Lists
-pub mod Newest

@@ -82,10 +82,8 @@ impl Book {
         requires document { IsDocument (data_of tree) }
         requires said { IsConfiguration (data_of tree) self.old.names conf }
         ensures number { IfOk result (λ number. number ≡ length self.old.documents) }
-        ensures documents { IfOk result (λ number. documents_of self.new ≡ documents_of self.old
-            ++ data_of tree ∷ []) }
-        ensures configurations { IfOk result (λ number. self.new.configurations
-            ≡ self.old.configurations ++ (number, conf) ∷ []) }
+        ensures documents { IfOk result (λ number. documents_of self.new ≡ documents_of self.old ++ data_of tree ∷ []) }
+        ensures configurations { IfOk result (λ number. self.new.configurations ≡ self.old.configurations ++ (number, conf) ∷ []) }
         ensures names { self.new.names ≡ self.old.names }
         ensures err { OnErr result (self.new ≡ self.old) }
     {
@@ -126,8 +124,7 @@ impl Book {
 
     /// The newest configuration. It takes no memory.
     pub fn newest(&self) -> &Current
-        ensures { slice_get self.now.configurations (length self.now.configurations - 1)
-            ≡ Some (numbered result.now) }
+        ensures { slice_get self.now.configurations (length self.now.configurations - 1) ≡ Some (numbered result.now) }
     {
         &self.currents[self.currents.len() - 1]
     }
@@ -179,11 +176,9 @@ fn put_both(
     document: Tree,
     current: Current,
 ) -> Result<(), AllocError>
-    ensures documents { IfOk result (λ _. documents.new.items ≡ documents.old.items
-        ++ document ∷ []) }
+    ensures documents { IfOk result (λ _. documents.new.items ≡ documents.old.items ++ document ∷ []) }
     ensures currents { IfOk result (λ _. currents.new.items ≡ currents.old.items ++ current ∷ []) }
-    ensures err { OnErr result ((documents.new.items ≡ documents.old.items) × (currents.new.items
-        ≡ currents.old.items)) }
+    ensures err { OnErr result ((documents.new.items ≡ documents.old.items) × (currents.new.items ≡ currents.old.items)) }
 {
     documents.reserve(1)?;
     currents.push(current)?;

@@ -19,9 +19,9 @@ invariant_of-self-2 c =
     let count : number ≡ length documents = omega (arith, c.self.inside.documents.ok.0) in
     let said : IsConfiguration (data_of c.args.tree) names conf = subst (λ (b : Publications). IsConfiguration (data_of c.args.tree) b.names conf) (sym c.self.view_is) c.requires.said in
     let confs : map numbered c.put_both.new.currents.items ≡ map numbered old ++ (number, conf) ∷ [] =
-    ap (map numbered) c.in_ok-put_both.ensures.currents
-    ∙ map-append numbered old (c.in_ok-current.current ∷ [])
-    ∙ ap (λ (p : ℕ × Configuration). map numbered old ++ p ∷ []) c.in_ok-current.ensures in
+        ap (map numbered) c.in_ok-put_both.ensures.currents
+        ∙ map-append numbered old (c.in_ok-current.current ∷ [])
+        ∙ ap (λ (p : ℕ × Configuration). map numbered old ++ p ∷ []) c.in_ok-current.ensures in
     subst (λ (cs : List (ℕ × Configuration)). book_with c.put_both.new.documents.items cs names) (sym confs)
     (subst (λ (ds : List Tree). book_with ds (map numbered old ++ (number, conf) ∷ []) names) (sym c.in_ok-put_both.ensures.documents)
     (book_grown documents (map numbered old) names c.args.tree number conf c.self.invariant c.requires.document said count))
