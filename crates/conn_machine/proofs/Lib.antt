@@ -1,0 +1,4 @@
+mod CourseLemmas
+mod StepLemmas
+mod TurnLemmas
+mod UnitLaws

@@ -1,0 +1,7 @@
+pub mod Answers
+pub mod Asking
+pub mod Later
+pub mod Sessions
+pub mod States
+pub mod Steps
+pub mod Turns
