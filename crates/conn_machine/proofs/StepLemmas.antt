@@ -36,9 +36,9 @@ follows_begin c = record {
 -- ---- more bytes, and their end
 
 or_true : (a b : Bool) → a ≡ false → b ≡ false → (a || b) ≢ true
-or_true true b no none is = cc
-or_true false true no none is = cc
-or_true false false no none is = cc
+or_true true b first second is = cc
+or_true false true first second is = cc
+or_true false false first second is = cc
 
 module _ (laws : UnitLaws) (c : Connection) (t : Told) (s : State) (is : Follows c t s) where
   with_piece : (piece more : List ℕ) (ended : Bool) → s.ended ≡ false → s.given_up ≡ false → GoesOn (fed s piece) more ended → GoesOn s (piece ++ more) ended
@@ -173,7 +173,7 @@ due_fresh s conf fresh = by (unit_under conf s).continue_due
     by true = ap not fresh
     by false = refl
 
-module _ (laws : UnitLaws) (c : Connection) (t : Told) (s : State) (bound : Numbered) (is : Follows c t s) (open : s.closed ≡ false) where
+module _ (laws : UnitLaws) (c : Connection) (t : Told) (s : State) (bound : Numbered) (is : Follows c t s) (goes_on : s.closed ≡ false) where
   pub follows_head : s.bound ≡ None → head_begun s.unused ≡ true → s.last ≤ bound.0
       → Follows c (record t { given = (bound.0, Some bound.1) ∷ t.given }) (taken_up bound s)
   follows_head free begun low = record {
@@ -183,11 +183,11 @@ module _ (laws : UnitLaws) (c : Connection) (t : Told) (s : State) (bound : Numb
         let same : due ≡ unit_due = due_fresh s bound.1 (is.fresh free) in
         let over : s.ended ≡ true → more ≡ [] = λ ended. goes.none (ap (λ b. b || s.given_up) ended) in
         let left : course_left c confs s receipts more ended ≡ behind (continue_bytes due) [] (course_left c confs (taken_up bound s) receipts more ended) =
-        ap (λ b. if b then closed_course receipts else course_from c confs ended receipts s.left s.last s.told (s.unused ++ more)) open
+        ap (λ b. if b then closed_course receipts else course_from c confs ended receipts s.left s.last s.told (s.unused ++ more)) goes_on
         ∙ ap (λ told. course_from c confs ended receipts s.left s.last told (s.unused ++ more)) (is.fresh free)
         ∙ told_course laws c confs bound receipts s.left s.last s.unused more s.ended ended over goes.same begun agrees.0 low fits
         ∙ ap (λ d. behind (continue_bytes d) [] (course_from c confs ended receipts s.left s.last d (s.unused ++ more))) (sym same)
-        ∙ ap (λ b. behind (continue_bytes due) [] (if b then closed_course receipts else course_from c confs ended receipts s.left s.last due (s.unused ++ more))) (sym open) in
+        ∙ ap (λ b. behind (continue_bytes due) [] (if b then closed_course receipts else course_from c confs ended receipts s.left s.last due (s.unused ++ more))) (sym goes_on) in
         is.law confs receipts more ended agrees.1 (fits_none s.bound receipts free) (record { none = goes.none; same = goes.same })
         ∙ ap (behind (t.written ++ s.out) s.lines) left
         ∙ behind_written t.written s.out (continue_bytes due) s.lines [] (course_left c confs (taken_up bound s) receipts more ended)
@@ -203,7 +203,7 @@ module _ (laws : UnitLaws) (c : Connection) (t : Told) (s : State) (bound : Numb
     under = λ other confs more ended way agrees goes.
         let written = t.written ++ s.out in
         let left : course_left c confs s [] more ended ≡ stands under_way =
-        ap (λ b. if b then closed_course [] else course_from c confs ended [] s.left s.last s.told (s.unused ++ more)) open
+        ap (λ b. if b then closed_course [] else course_from c confs ended [] s.left s.last s.told (s.unused ++ more)) goes_on
         ∙ course_begun c confs ended s.left s.last s.told (s.unused ++ more) (laws.begun s.unused more begun) in
         ap (λ receipts. waits_in (course_of c confs receipts (t.bytes ++ more) ended)) (sym (append-nil t.receipts))
         ∙ ap waits_in (is.law confs [] more ended agrees.1 (fits_none s.bound [] free) (record { none = goes.none; same = goes.same }))
@@ -214,7 +214,7 @@ module _ (laws : UnitLaws) (c : Connection) (t : Told) (s : State) (bound : Numb
 -- ---- the request under way ends
 
 module _ (laws : UnitLaws) (c : Connection) (t : Told) (s : State) (bound : Numbered) (r : Receipt) (is : Follows c t s)
-    (open : s.closed ≡ false) (way : s.bound ≡ Some bound) (same : r.conf ≡ bound.0) where
+    (goes_on : s.closed ≡ false) (way : s.bound ≡ Some bound) (same : r.conf ≡ bound.0) where
   -- what is left, by the turn that the receipt has
   turn_left : (confs : List Configuration) (receipts : List Receipt) (more : List ℕ) (ended : Bool) (turn : Turn)
       → Agrees confs t.given → GoesOn s more ended
@@ -234,7 +234,7 @@ module _ (laws : UnitLaws) (c : Connection) (t : Told) (s : State) (bound : Numb
       let there : slice_get confs r.conf ≡ Some conf = ap (slice_get confs) same ∙ is.there bound confs way agrees in
       let idle : (unit.continue_due && not s.told) ≡ false =
       ap (λ due. due && not s.told) (due_goes laws s.unused more s.ended ended limit over goes.same begun) ∙ is.idle bound way in
-      ap (λ b. if b then closed_course (r ∷ receipts) else course_from c confs ended (r ∷ receipts) s.left s.last s.told bytes) open
+      ap (λ b. if b then closed_course (r ∷ receipts) else course_from c confs ended (r ∷ receipts) s.left s.last s.told bytes) goes_on
       ∙ course_there c confs conf ended r receipts s.left s.last s.told bytes rises there (laws.begun s.unused more begun)
       ∙ ap (λ due. behind (continue_bytes due) [] (course (turn_of c conf r unit.found))) idle
       ∙ sym (behind_nothing (course (turn_of c conf r unit.found)))
@@ -299,14 +299,14 @@ some_is (Some x) is = (x, refl)
 pub follows_between : (c : Connection) (t : Told) (s : State) (r : Receipt) → Follows c t s
     → s.closed ≡ false → s.bound ≡ None → head_begun s.unused ≡ false → ends_between r.kind ≡ true → s.last ≤ r.conf
     → Follows c (record t { receipts = t.receipts ++ r ∷ []; given = (r.conf, None) ∷ t.given }) (given_up (closed_by r.conf s))
-follows_between c t s r is open free unbegun_is may low = record {
+follows_between c t s r is goes_on free unbegun_is may low = record {
   law = λ confs receipts more ended agrees fits goes.
       let here : GoesOn s more ended = record { none = λ over. goes.none (or_up s.ended); same = goes.same } in
       let none : more ≡ [] = goes.none (or_up s.ended) in
       let there = some_is (slice_get confs r.conf) agrees.0 in
       let unbegun_all : head_begun (s.unused ++ more) ≡ false = ap head_begun (ap (λ m. s.unused ++ m) none ∙ append-nil s.unused) ∙ unbegun_is in
       let left : course_left c confs s (r ∷ receipts) more ended ≡ closed_course receipts =
-      ap (λ b. if b then closed_course (r ∷ receipts) else course_from c confs ended (r ∷ receipts) s.left s.last s.told (s.unused ++ more)) open
+      ap (λ b. if b then closed_course (r ∷ receipts) else course_from c confs ended (r ∷ receipts) s.left s.last s.told (s.unused ++ more)) goes_on
       ∙ course_between c confs there.0 ended r receipts s.left s.last s.told (s.unused ++ more) (le-leb s.last r.conf low) there.1 unbegun_all
       ∙ ap (λ b. if b then closed_course receipts else None) may in
       ap (λ all. course_of c confs all (t.bytes ++ more) ended) (append_assoc t.receipts (r ∷ []) receipts)

@@ -1,6 +1,6 @@
 -- What a handler is asked for a request.
 use Rattle.std.specs.Prelude.{ℕ, ◌==◌, Bool, true, false, ◌&&◌, List, [], Option, Some, None, bytes_eq}
-use Rattle.std.specs.Cmp.{pointwise}
+use Rattle.std.specs.Cmp.Lexicographic.{pointwise}
 use Rattle.unit_types.specs.declared.field.Field.{Field}
 use Rattle.unit_types.specs.declared.message.Addr.{Addr}
 use Rattle.unit_types.specs.declared.message.Request.{Request}

@@ -97,8 +97,8 @@ session_of c confs receipts bytes ended =
     option_and_then (λ course. session_in course.written course.mark) (course_of c confs receipts bytes ended)
 
 -- the lines of its log
-abbrev pub reply_lines_of : Connection → List Configuration → List Receipt → List ℕ → Bool → Option (List ℕ)
-reply_lines_of c confs receipts bytes ended = option_map (λ course. course.lines) (course_of c confs receipts bytes ended)
+abbrev pub log_lines_of : Connection → List Configuration → List Receipt → List ℕ → Bool → Option (List ℕ)
+log_lines_of c confs receipts bytes ended = option_map (λ course. course.lines) (course_of c confs receipts bytes ended)
 
 abbrev pub has_under_way : Mark → Bool
 has_under_way still_open = false
