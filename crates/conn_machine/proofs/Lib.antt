@@ -1,4 +1,5 @@
 mod CourseLemmas
+mod EndLemmas
 mod StepLemmas
 mod TurnLemmas
 mod UnitLaws

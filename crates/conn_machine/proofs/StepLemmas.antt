@@ -12,8 +12,8 @@ use Rattle.http_front.specs.Session.{request_limit}
 use Rattle.http_front.specs.Written.{continue_bytes, http_bytes}
 use Rattle.conn_machine.specs.declared.receipt.Receipt.{Receipt}
 use Rattle.conn_machine.specs.Answers.{Connection, closes, is_to_head, reply_line}
-use Rattle.conn_machine.specs.Sessions.{Course, behind, closed_course, stands, under_way, unanswered, unbegun, turn_course, unit_course, course_from, course_of, waits_in, is_under_way}
-use Rattle.conn_machine.specs.States.{Numbered, State, unit_under, Given, Agrees, Told, GoesOn, Fits, course_left, is_due, Follows}
+use Rattle.conn_machine.specs.Sessions.{Course, behind, closed_course, stands, under_way, unanswered, unbegun, turn_course, unit_course, course_from, course_of}
+use Rattle.conn_machine.specs.States.{Numbered, State, unit_under, Given, Agrees, Told, GoesOn, Fits, course_left, is_due, Waits, Follows}
 use Rattle.conn_machine.specs.Steps.{nothing, begin, fed, at_end, taken_up, replied, closed_by, given_up, shown}
 use Rattle.conn_machine.specs.Turns.{Turn, replies, ends, unfit, turn_of, ends_between}
 use Rattle.conn_machine.proofs.CourseLemmas.{behind_nothing, behind_both, behind_written, course_there, course_between, course_begun, due_once}
@@ -64,8 +64,8 @@ module _ (laws : UnitLaws) (c : Connection) (t : Told) (s : State) (is : Follows
     there = is.there;
     rises = is.rises;
     under = λ bound confs more ended way agrees goes.
-        ap (λ bytes. is_under_way c confs t.receipts bytes ended) (append_assoc t.bytes piece more)
-        ∙ is.under bound confs (piece ++ more) ended way agrees (with_piece piece more ended goes_on stays_up goes);
+        subst (λ (bytes : List ℕ). Waits s.lines (course_of c confs t.receipts bytes ended)) (sym (append_assoc t.bytes piece more))
+        (is.under bound confs (piece ++ more) ended way agrees (with_piece piece more ended goes_on stays_up goes));
     fresh = is.fresh;
   }
 
@@ -124,7 +124,7 @@ module _ (laws : UnitLaws) (c : Connection) (t : Told) (s : State) (is : Follows
 
 -- ---- the head is complete
 
-fits_none : (o : Option Numbered) (receipts : List Receipt) → o ≡ None → Fits o receipts
+pub fits_none : (o : Option Numbered) (receipts : List Receipt) → o ≡ None → Fits o receipts
 fits_none None receipts is = tt
 fits_none (Some bound) receipts is = absurd (cc is)
 
@@ -162,10 +162,6 @@ told_course laws c confs bound (r ∷ rs) left last unused more was ended none o
     ∙ ap (λ due. behind (continue_bytes d) [] (behind (continue_bytes (due && not d)) [] turn)) (sym same)
     ∙ ap (behind (continue_bytes d) []) (sym (course_there c confs conf ended r rs left last d bytes rises is all))
 
-waits_behind : (written lines : List ℕ) (course : Option Course) → waits_in (behind written lines course) ≡ waits_in course
-waits_behind written lines None = refl
-waits_behind written lines (Some course) = refl
-
 due_fresh : (s : State) (conf : Configuration) → s.told ≡ false → is_due conf s ≡ (unit_under conf s).continue_due
 due_fresh s conf fresh = by (unit_under conf s).continue_due
   where
@@ -201,13 +197,16 @@ module _ (laws : UnitLaws) (c : Connection) (t : Told) (s : State) (bound : Numb
     there = λ other confs way agrees. let e : bound ≡ other = cc way in subst (λ (b : Numbered). slice_get confs b.0 ≡ Some b.1) e agrees.0;
     rises = λ other way. let e : bound ≡ other = cc way in subst (λ (b : Numbered). s.last ≤ b.0) e low;
     under = λ other confs more ended way agrees goes.
-        let written = t.written ++ s.out in
         let left : course_left c confs s [] more ended ≡ stands under_way =
         ap (λ b. if b then closed_course [] else course_from c confs ended [] s.left s.last s.told (s.unused ++ more)) goes_on
         ∙ course_begun c confs ended s.left s.last s.told (s.unused ++ more) (laws.begun s.unused more begun) in
-        ap (λ receipts. waits_in (course_of c confs receipts (t.bytes ++ more) ended)) (sym (append-nil t.receipts))
-        ∙ ap waits_in (is.law confs [] more ended agrees.1 (fits_none s.bound [] free) (record { none = goes.none; same = goes.same }))
-        ∙ ap (λ course. waits_in (behind written s.lines course)) left;
+        (
+          (t.written ++ s.out) ++ [],
+          ap (λ receipts. course_of c confs receipts (t.bytes ++ more) ended) (sym (append-nil t.receipts))
+              ∙ is.law confs [] more ended agrees.1 (fits_none s.bound [] free) (record { none = goes.none; same = goes.same })
+              ∙ ap (behind (t.written ++ s.out) s.lines) left
+              ∙ ap (λ lines. Some (record { written = (t.written ++ s.out) ++ []; lines = lines; mark = under_way })) (append-nil s.lines),
+        );
     fresh = λ none. absurd (cc none);
   }
 

@@ -5,6 +5,7 @@ use Rattle.conf_validate.specs.Configuration.{Configuration}
 use Rattle.http_front.specs.Front.{head_begun}
 use Rattle.http_front.specs.Message.{request_of}
 use Rattle.http_front.specs.NextUnit.{Found, request, bad, cut, finished, wait, NextUnit, next_unit}
+use Rattle.http_front.specs.Session.{Session}
 use Rattle.unit_types.specs.declared.message.Request.{Request}
 use Rattle.route_match.specs.Target.{target_of}
 use Rattle.conn_machine.specs.declared.receipt.Kind.TheVariants.{Gone}
@@ -13,7 +14,7 @@ use Rattle.conn_machine.specs.declared.receipt.Need.TheVariants.{Read, Ask, Writ
 use Rattle.conn_machine.specs.declared.receipt.Receipt.{Receipt}
 use Rattle.conn_machine.specs.Answers.{Connection}
 use Rattle.conn_machine.specs.Asking.{asked_of, is_app, timeout_in}
-use Rattle.conn_machine.specs.Sessions.{Course, behind, closed_course, course_from, course_of, is_under_way}
+use Rattle.conn_machine.specs.Sessions.{Course, under_way, behind, closed_course, course_from, course_of}
 
 -- a configuration under its number
 abbrev pub Numbered : Type 0
@@ -87,6 +88,10 @@ course_left c confs s receipts more ended =
 abbrev pub is_due : Configuration → State → Bool
 is_due conf s = (unit_under conf s).continue_due && not s.told
 
+-- a request is under way, behind these lines
+abbrev pub Waits : List ℕ → Option Course → Type 0
+Waits lines course = (written : List ℕ) × (course ≡ Some (record { written = written; lines = lines; mark = under_way }))
+
 -- the state follows what came and went: what was shown, what isn't yet, and the course of what is left, put together, are the
 -- course of all receipts and bytes, however they go on, by every list of configurations that agrees with those given
 pub record Follows (c : Connection) (t : Told) (s : State) : Type 0 where
@@ -101,7 +106,7 @@ pub record Follows (c : Connection) (t : Told) (s : State) : Type 0 where
   pub rises : (bound : Numbered) → s.bound ≡ Some bound → s.last ≤ bound.0
   pub under : (bound : Numbered) (confs : List Configuration) (more : List ℕ) (ended : Bool)
       → s.bound ≡ Some bound → Agrees confs t.given → GoesOn s more ended
-      → is_under_way c confs t.receipts (t.bytes ++ more) ended ≡ true
+      → Waits s.lines (course_of c confs t.receipts (t.bytes ++ more) ended)
   pub fresh : s.bound ≡ None → s.told ≡ false
 
 -- ---- between two calls
@@ -127,6 +132,11 @@ pub record IsSettled (c : Connection) (s : State) : Type 0 where
 abbrev pub counted : Option Numbered → List Receipt → List Receipt
 counted None receipts = receipts
 counted (Some bound) receipts = receipts ++ record { conf = bound.0; stream = 0; kind = Gone } ∷ []
+
+-- the session is closed, or open and the input ended
+abbrev pub is_over : Option Session → Bool → Bool
+is_over None ended = false
+is_over (Some session) ended = session.closed || ended
 
 -- ---- what a connection needs
 

@@ -4,5 +4,5 @@
 mod laws;
 mod receipt;
 
-pub use laws::laws_of_steps;
+pub use laws::{laws_of_ends, laws_of_steps};
 pub use receipt::{Kind, Need, Receipt, Receipts, Why};
