@@ -1,5 +1,10 @@
 mod CourseLemmas
 mod EndLemmas
+mod FrontLaws
+mod NamedTurns
+mod PlainLemmas
+mod SameLemmas
 mod StepLemmas
 mod TurnLemmas
 mod UnitLaws
+mod WalkLemmas

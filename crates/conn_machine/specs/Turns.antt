@@ -111,3 +111,7 @@ ends_between (kind.Late deadline now) = false
 ends_between kind.Gone = true
 ends_between kind.Cut = false
 ends_between kind.Memory = true
+
+-- a receipt of a kind under a configuration's number and a stream
+abbrev pub receipt_of : ℕ → ℕ → Kind → Receipt
+receipt_of conf stream k = record { conf = conf; stream = stream; kind = k }

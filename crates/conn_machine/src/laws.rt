@@ -1,18 +1,27 @@
 //! What holds of every course of a connection. Each function does nothing: its contract is the law.
-ghost use Rattle.std.specs.Prelude.{◌≡◌, ◌≢◌, ◌↔◌, ◌≤◌, ◌||◌, ◌++◌, ◌∷◌, Bool, true, false, List, [], ℕ, length, Option, Some, None, slice_get};
+ghost use Rattle.std.specs.Prelude.{◌≡◌, ◌≢◌, ◌↔◌, ◌<◌, ◌≤◌, ◌||◌, ◌++◌, ◌∷◌, Bool, true, false, List, [], ℕ, length, Option, Some, None, slice_get};
 ghost use Rattle.std.specs.Option.{is_some};
 ghost use Rattle.unit_types.specs.declared.message.Reply.{Reply};
 ghost use Rattle.unit_types.specs.declared.message.Request.{Request};
 ghost use Rattle.conf_validate.specs.Configuration.{Configuration};
 ghost use Rattle.http_front.specs.Front.{head_begun};
-ghost use Rattle.http_front.specs.Session.{Session};
+ghost use Rattle.http_front.specs.Message.{Message, request_of};
+ghost use Rattle.http_front.specs.NextUnit.{Found, bad, cut, request};
+ghost use Rattle.http_front.specs.Session.{Session, plain_session_of, request_limit};
+ghost use Rattle.http_front.specs.Written.{error_reply};
+ghost use Rattle.request_context.specs.declared.asked.Asked.{Asked};
+ghost use Rattle.route_match.specs.Target.{target_of};
+ghost use Rattle.conn_machine.specs.declared.receipt.Kind.TheVariants.{App, Busy, Cut, Gone, Late, Memory, Own};
 ghost use Rattle.conn_machine.specs.declared.receipt.Need.TheVariants.{Close};
 ghost use Rattle.conn_machine.specs.declared.receipt.Receipt.{Receipt};
-ghost use Rattle.conn_machine.specs.Answers.{Connection};
+ghost use Rattle.conn_machine.specs.declared.receipt.Why.{Why};
+ghost use Rattle.conn_machine.specs.Answers.{Connection, reply_to};
+ghost use Rattle.conn_machine.specs.Asking.{asked_of, is_app, is_same_asked, timeout_in};
+ghost use Rattle.conn_machine.specs.Laws.{ArePlain, NeverFall, plain_connection};
 ghost use Rattle.conn_machine.specs.Sessions.{course_of, is_under_way, log_lines_of, session_of};
 ghost use Rattle.conn_machine.specs.States.{Agrees, Fits, Follows, GoesOn, IsSettled, Numbered, State, Told, counted, is_over, need_of, unit_under};
 ghost use Rattle.conn_machine.specs.Steps.{at_end, begin, closed_by, fed, given_up, nothing, replied, shown, taken_up};
-ghost use Rattle.conn_machine.specs.Turns.{ends, ends_between, replies, turn_of};
+ghost use Rattle.conn_machine.specs.Turns.{ends, ends_between, is_why, receipt_of, replies, turn_of};
 
 use http_front::laws_of_units;
 
@@ -66,3 +75,51 @@ pub fn laws_of_ends()
 {
     laws_of_units();
 }
+
+/// What a receipt makes of what is found at the front of the bytes, kind by kind. A handler's receipt has the stream under
+/// which it was asked. A request was turned away where no run was free for its record, or where the reply to another request
+/// came under its stream. Two asked values count as the same exactly where they are equal.
+pub fn laws_of_turns()
+    ensures app { (c : Connection) (conf : Configuration) (number stream : ℕ) (m : Message) (used : ℕ)
+        → is_app (target_of conf c.listener (request_of c.from c.to m)) ≡ true → 0 < stream
+        → turn_of c conf (receipt_of number stream App) (request m used)
+        ≡ replies (Some (request_of c.from c.to m)) (reply_to c conf (request_of c.from c.to m)) used }
+    ensures own { (c : Connection) (conf : Configuration) (number : ℕ) (m : Message) (used : ℕ)
+        → is_app (target_of conf c.listener (request_of c.from c.to m)) ≡ false
+        → turn_of c conf (receipt_of number 0 Own) (request m used)
+        ≡ replies (Some (request_of c.from c.to m)) (reply_to c conf (request_of c.from c.to m)) used }
+    ensures refusal { (c : Connection) (conf : Configuration) (number status : ℕ)
+        → turn_of c conf (receipt_of number 0 Own) (bad status) ≡ replies None (error_reply status) 0 }
+    ensures busy { (c : Connection) (conf : Configuration) (number stream : ℕ) (m : Message) (used : ℕ) (cause : Why)
+        → is_app (target_of conf c.listener (request_of c.from c.to m)) ≡ true
+        → is_why (asked_of c conf stream (request_of c.from c.to m)) cause ≡ true
+        → turn_of c conf (receipt_of number stream (Busy cause)) (request m used)
+        ≡ replies (Some (request_of c.from c.to m)) (error_reply 503) used }
+    ensures late { (c : Connection) (conf : Configuration) (number stream : ℕ) (m : Message) (used seconds deadline now : ℕ)
+        → timeout_in (target_of conf c.listener (request_of c.from c.to m)) ≡ Some seconds → 0 < stream → deadline ≤ now
+        → turn_of c conf (receipt_of number stream (Late deadline now)) (request m used)
+        ≡ replies (Some (request_of c.from c.to m)) (error_reply 503) used }
+    ensures cut { (c : Connection) (conf : Configuration) (number : ℕ) → turn_of c conf (receipt_of number 0 Cut) cut ≡ ends }
+    ensures gone { (c : Connection) (conf : Configuration) (number stream : ℕ) (found : Found)
+        → turn_of c conf (receipt_of number stream Gone) found ≡ ends }
+    ensures memory { (c : Connection) (conf : Configuration) (number stream : ℕ) (found : Found)
+        → turn_of c conf (receipt_of number stream Memory) found ≡ ends }
+    ensures same { (a b : Asked) → (is_same_asked a b ≡ true) ↔ (a ≡ b) }
+{}
+
+/// The session of a connection: a longer list of configurations changes nothing; the numbers of the configurations never
+/// fall, and there are at most 1,000 receipts. Where the input ended and each request was answered by a handler or by the
+/// server or was cut, under one configuration, it is the session with that configuration's limit and answers.
+pub fn laws_of_sessions()
+    ensures longer { (c : Connection) (confs more : List Configuration) (receipts : List Receipt) (bytes : List ℕ) (ended : Bool) (session : Session)
+        → session_of c confs receipts bytes ended ≡ Some session → session_of c (confs ++ more) receipts bytes ended ≡ Some session }
+    ensures lines { (c : Connection) (confs more : List Configuration) (receipts : List Receipt) (bytes : List ℕ) (ended : Bool) (lines : List ℕ)
+        → log_lines_of c confs receipts bytes ended ≡ Some lines → log_lines_of c (confs ++ more) receipts bytes ended ≡ Some lines }
+    ensures rises { (c : Connection) (confs : List Configuration) (receipts : List Receipt) (bytes : List ℕ) (ended : Bool) (session : Session)
+        → session_of c confs receipts bytes ended ≡ Some session → NeverFall 0 receipts }
+    ensures count { (c : Connection) (confs : List Configuration) (receipts : List Receipt) (bytes : List ℕ) (ended : Bool) (session : Session)
+        → session_of c confs receipts bytes ended ≡ Some session → length receipts ≤ request_limit }
+    ensures plain { (c : Connection) (confs : List Configuration) (conf : Configuration) (number : ℕ) (receipts : List Receipt) (bytes : List ℕ) (session : Session)
+        → slice_get confs number ≡ Some conf → ArePlain number receipts → session_of c confs receipts bytes true ≡ Some session
+        → session ≡ plain_session_of (plain_connection c conf) true bytes }
+{}

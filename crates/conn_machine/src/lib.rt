@@ -1,8 +1,10 @@
 //! One connection as a machine: what its session writes, by how each of its requests ended.
 #![tactic(auto)]
 
+mod answers;
 mod laws;
 mod receipt;
 
-pub use laws::{laws_of_ends, laws_of_steps};
+pub use answers::{closes, return_reply};
+pub use laws::{laws_of_ends, laws_of_sessions, laws_of_steps, laws_of_turns};
 pub use receipt::{Kind, Need, Receipt, Receipts, Why};

@@ -43,7 +43,7 @@ pub enum Kind {
     Busy(Why),
     /// No reply came before its deadline.
     Late {
-        /// The deadline, in the clock's nanoseconds.
+        /// The deadline, in milliseconds of the clock.
         deadline: u64,
         /// The reading that was at or past it.
         now: u64,
