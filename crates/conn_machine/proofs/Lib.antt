@@ -1,3 +1,4 @@
+mod CallLemmas
 mod CourseLemmas
 mod EndLemmas
 mod FrontLaws

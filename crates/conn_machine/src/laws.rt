@@ -11,12 +11,14 @@ ghost use Rattle.http_front.specs.Session.{Session, plain_session_of, request_li
 ghost use Rattle.http_front.specs.Written.{error_reply};
 ghost use Rattle.request_context.specs.declared.asked.Asked.{Asked};
 ghost use Rattle.route_match.specs.Target.{target_of};
+ghost use Rattle.conn_machine.specs.declared.receipt.Kind.{Kind};
 ghost use Rattle.conn_machine.specs.declared.receipt.Kind.TheVariants.{App, Busy, Cut, Gone, Late, Memory, Own};
 ghost use Rattle.conn_machine.specs.declared.receipt.Need.TheVariants.{Close};
 ghost use Rattle.conn_machine.specs.declared.receipt.Receipt.{Receipt};
 ghost use Rattle.conn_machine.specs.declared.receipt.Why.{Why};
 ghost use Rattle.conn_machine.specs.Answers.{Connection, reply_to};
 ghost use Rattle.conn_machine.specs.Asking.{asked_of, is_app, is_same_asked, timeout_in};
+ghost use Rattle.conn_machine.specs.Calls.{Account, IsSound, Reaches, on_answer, on_bytes, on_end, on_gone, opened, wrote};
 ghost use Rattle.conn_machine.specs.Laws.{ArePlain, NeverFall, plain_connection};
 ghost use Rattle.conn_machine.specs.Sessions.{course_of, is_under_way, log_lines_of, session_of};
 ghost use Rattle.conn_machine.specs.States.{Agrees, Fits, Follows, GoesOn, IsSettled, Numbered, State, Told, counted, is_over, need_of, unit_under};
@@ -123,3 +125,21 @@ pub fn laws_of_sessions()
         → slice_get confs number ≡ Some conf → ArePlain number receipts → session_of c confs receipts bytes true ≡ Some session
         → session ≡ plain_session_of (plain_connection c conf) true bytes }
 {}
+
+/// However a connection is called, its account stays sound: its state follows what came and went, each request that the server
+/// can answer itself is answered, and more requests may come while it is open.
+pub fn laws_of_calls()
+    ensures opened { (c : Connection) → IsSound c opened }
+    ensures bytes { (c : Connection) (current : Numbered) (a : Account) (piece : List ℕ) → IsSound c a → Reaches current a
+        → a.state.ended ≡ false → a.state.given_up ≡ false → IsSound c (on_bytes c current piece a) }
+    ensures end { (c : Connection) (current : Numbered) (a : Account) → IsSound c a → Reaches current a → IsSound c (on_end c current a) }
+    ensures answer { (c : Connection) (current bound : Numbered) (a : Account) (r : Receipt) (request : Request) (reply : Reply) (used : ℕ)
+        → IsSound c a → Reaches current a → a.state.bound ≡ Some bound → r.conf ≡ bound.0
+        → turn_of c bound.1 r (unit_under bound.1 a.state).found ≡ replies (Some request) reply used
+        → IsSound c (on_answer c current bound r request reply used a) }
+    ensures gone { (c : Connection) (current : Numbered) (a : Account) (stream : ℕ) (k : Kind) → IsSound c a → Reaches current a
+        → ends_between k ≡ true → IsSound c (on_gone current.0 stream k a) }
+    ensures wrote { (c : Connection) (a : Account) (n : ℕ) → IsSound c a → IsSound c (wrote n a) }
+{
+    laws_of_units();
+}
