@@ -17,7 +17,7 @@ use Rattle.conn_machine.specs.declared.receipt.Kind.TheVariants.{Cut, Own}
 use Rattle.conn_machine.specs.declared.receipt.Receipt.{Receipt}
 use Rattle.conn_machine.specs.Answers.{Connection, closes, reply_to}
 use Rattle.conn_machine.specs.Asking.{is_app}
-use Rattle.conn_machine.specs.Calls.{Account, opened, with_receipt, replied_with, closed_with, taken_with, own_answer, found_at, front_answer, settled, on_bytes, on_end, on_answer, ended_at, given_up_with, on_gone, wrote, IsSound, Reaches}
+use Rattle.conn_machine.specs.Calls.{Account, opened, replied_with, closed_with, taken_with, own_answer, found_at, front_answer, settled, on_bytes, on_end, on_answer, ended_at, given_up_with, on_gone, wrote, IsSound, Reaches}
 use Rattle.conn_machine.specs.States.{Numbered, State, unit_under, Told, Follows, asks_by, IsSettled}
 use Rattle.conn_machine.specs.Steps.{fed, at_end, taken_up, replied, closed_by, given_up, shown}
 use Rattle.conn_machine.specs.Turns.{replies, ends, ends_between, receipt_of, turn_of}

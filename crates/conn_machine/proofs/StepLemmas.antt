@@ -199,8 +199,7 @@ module _ (laws : UnitLaws) (c : Connection) (t : Told) (s : State) (bound : Numb
     under = λ other confs more ended way agrees goes.
         let left : course_left c confs s [] more ended ≡ stands under_way =
         ap (λ b. if b then closed_course [] else course_from c confs ended [] s.left s.last s.told (s.unused ++ more)) goes_on
-        ∙ course_begun c confs ended s.left s.last s.told (s.unused ++ more) (laws.begun s.unused more begun) in
-        (
+        ∙ course_begun c confs ended s.left s.last s.told (s.unused ++ more) (laws.begun s.unused more begun) in (
           (t.written ++ s.out) ++ [],
           ap (λ receipts. course_of c confs receipts (t.bytes ++ more) ended) (sym (append-nil t.receipts))
               ∙ is.law confs [] more ended agrees.1 (fits_none s.bound [] free) (record { none = goes.none; same = goes.same })

@@ -15,7 +15,7 @@ use Rattle.conn_machine.specs.declared.receipt.Receipt.{Receipt}
 use Rattle.conn_machine.specs.Answers.{Connection, reply_to}
 use Rattle.conn_machine.specs.Asking.{is_app}
 use Rattle.conn_machine.specs.States.{Numbered, State, Told, Follows, IsSettled, unit_under}
-use Rattle.conn_machine.specs.Steps.{at_end, begin, closed_by, fed, given_up, nothing, replied, shown, taken_up}
+use Rattle.conn_machine.specs.Steps.{at_end, begin, closed_by, fed, given_up, nothing, replied, shown, taken_up, with_bytes, with_given, with_receipt, with_written}
 use Rattle.conn_machine.specs.Turns.{receipt_of}
 
 -- what came and went, and where the connection stands
@@ -28,9 +28,6 @@ opened = record { told = nothing; state = begin }
 
 -- ---- one request
 
-abbrev pub with_receipt : Receipt → Told → Told
-with_receipt receipt t = record t { receipts = t.receipts ++ receipt ∷ [] }
-
 -- the request under way, or refused bytes, get a reply
 abbrev pub replied_with : Connection → Numbered → Receipt → Option Request → Reply → ℕ → Account → Account
 replied_with c bound receipt request reply used a =
@@ -42,10 +39,7 @@ closed_with bound receipt a = record { told = with_receipt receipt a.told; state
 
 -- the head at the front is complete
 abbrev pub taken_with : Numbered → Account → Account
-taken_with bound a = record {
-  told = record a.told { given = (bound.0, Some bound.1) ∷ a.told.given };
-  state = taken_up bound a.state;
-}
+taken_with bound a = record { told = with_given (bound.0, Some bound.1) a.told; state = taken_up bound a.state }
 
 -- ---- all that the server answers itself
 
@@ -80,10 +74,8 @@ settled c current (suc more) a =
 -- ---- the calls
 
 abbrev pub on_bytes : Connection → Numbered → List ℕ → Account → Account
-on_bytes c current piece a = settled c current request_limit (record {
-  told = record a.told { bytes = a.told.bytes ++ piece };
-  state = fed a.state piece;
-})
+on_bytes c current piece a =
+    settled c current request_limit (record { told = with_bytes piece a.told; state = fed a.state piece })
 
 abbrev pub on_end : Connection → Numbered → Account → Account
 on_end c current a = settled c current request_limit (record { told = a.told; state = at_end a.state })
@@ -97,10 +89,7 @@ on_answer c current bound receipt r reply used a =
 abbrev pub ended_at : ℕ → ℕ → Kind → Account → Option Numbered → Account
 ended_at number stream kind a (Some bound) = closed_with bound (receipt_of bound.0 stream kind) a
 ended_at number stream kind a None = record {
-  told = record a.told {
-    receipts = a.told.receipts ++ receipt_of number stream kind ∷ [];
-    given = (number, None) ∷ a.told.given;
-  };
+  told = with_receipt (receipt_of number stream kind) (with_given (number, None) a.told);
   state = given_up (closed_by number a.state);
 }
 
@@ -113,7 +102,7 @@ on_gone number stream kind a = given_up_with (if a.state.closed then a else ende
 -- so many of the bytes that are shown are written
 abbrev pub wrote : ℕ → Account → Account
 wrote n a = record {
-  told = record a.told { written = a.told.written ++ take n a.state.out };
+  told = with_written (take n a.state.out) a.told;
   state = shown (drop n a.state.out) a.state;
 }
 

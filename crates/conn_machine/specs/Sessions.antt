@@ -75,7 +75,7 @@ course_from c confs ended [] left last told bytes = unanswered bytes
 course_from c confs ended (receipt ∷ receipts) left last told bytes =
     if nat_le last receipt.conf
     then receipt_course c (slice_get confs receipt.conf) ended left told bytes receipt receipts
-        (course_from c confs ended receipts (left - 1) receipt.conf false)
+    (course_from c confs ended receipts (left - 1) receipt.conf false)
     else None
 
 -- the whole walk

@@ -1,17 +1,31 @@
 -- The steps from a state of a connection to the next one.
-use Rattle.std.specs.Prelude.{ℕ, ◌-◌, Bool, true, false, List, [], ◌++◌, drop, Option, Some, None, if◌then◌else◌}
+use Rattle.std.specs.Prelude.{ℕ, ◌-◌, Bool, true, false, List, [], ◌∷◌, ◌++◌, drop, Option, Some, None, if◌then◌else◌}
 use Rattle.unit_types.specs.declared.message.Reply.{Reply}
 use Rattle.unit_types.specs.declared.message.Request.{Request}
 use Rattle.http_front.specs.Session.{request_limit}
 use Rattle.http_front.specs.Written.{continue_bytes, http_bytes}
 use Rattle.conn_machine.specs.declared.receipt.Receipt.{Receipt}
 use Rattle.conn_machine.specs.Answers.{Connection, closes, is_to_head, reply_line}
-use Rattle.conn_machine.specs.States.{Numbered, State, Told, is_due}
+use Rattle.conn_machine.specs.States.{Given, Numbered, State, Told, is_due}
 
 -- nothing came and nothing went
 abbrev pub nothing : Told
 nothing = record { bytes = []; receipts = []; written = []; given = [] }
 
+-- one more receipt, one more configuration, more bytes, and more that was shown as written
+abbrev pub with_receipt : Receipt → Told → Told
+with_receipt receipt t = record t { receipts = t.receipts ++ receipt ∷ [] }
+
+abbrev pub with_given : Given → Told → Told
+with_given given t = record t { given = given ∷ t.given }
+
+abbrev pub with_bytes : List ℕ → Told → Told
+with_bytes piece t = record t { bytes = t.bytes ++ piece }
+
+abbrev pub with_written : List ℕ → Told → Told
+with_written front t = record t { written = t.written ++ front }
+
+-- where a connection begins
 abbrev pub begin : State
 begin = record {
   unused = [];

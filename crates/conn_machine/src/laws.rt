@@ -22,7 +22,7 @@ ghost use Rattle.conn_machine.specs.Calls.{Account, IsSound, Reaches, on_answer,
 ghost use Rattle.conn_machine.specs.Laws.{ArePlain, NeverFall, plain_connection};
 ghost use Rattle.conn_machine.specs.Sessions.{course_of, is_under_way, log_lines_of, session_of};
 ghost use Rattle.conn_machine.specs.States.{Agrees, Fits, Follows, GoesOn, IsSettled, Numbered, State, Told, counted, is_over, need_of, unit_under};
-ghost use Rattle.conn_machine.specs.Steps.{at_end, begin, closed_by, fed, given_up, nothing, replied, shown, taken_up};
+ghost use Rattle.conn_machine.specs.Steps.{at_end, begin, closed_by, fed, given_up, nothing, replied, shown, taken_up, with_bytes, with_given, with_receipt, with_written};
 ghost use Rattle.conn_machine.specs.Turns.{ends, ends_between, is_why, receipt_of, replies, turn_of};
 
 use http_front::laws_of_units;
@@ -31,26 +31,30 @@ use http_front::laws_of_units;
 /// reply, an end without a reply, and what is shown as written.
 pub fn laws_of_steps()
     ensures begin { (c : Connection) → Follows c nothing begin }
-    ensures fed { (c : Connection) (t : Told) (s : State) (piece : List ℕ) → Follows c t s → s.ended ≡ false → s.given_up ≡ false
-        → Follows c (record t { bytes = t.bytes ++ piece }) (fed s piece) }
-    ensures ended { (c : Connection) (t : Told) (s : State) → Follows c t s → Follows c t (at_end s) }
+    ensures fed { (c : Connection) (t : Told) (s : State) (piece : List ℕ) → Follows c t s → s.ended
+        ≡ false → s.given_up ≡ false → Follows c (with_bytes piece t) (fed s piece) }
+    ensures ended { (c : Connection) (t : Told) (s : State) → Follows c t s
+        → Follows c t (at_end s) }
     ensures head { (c : Connection) (t : Told) (s : State) (bound : Numbered) → Follows c t s
         → s.closed ≡ false → s.bound ≡ None → head_begun s.unused ≡ true → s.last ≤ bound.0
-        → Follows c (record t { given = (bound.0, Some bound.1) ∷ t.given }) (taken_up bound s) }
-    ensures reply { (c : Connection) (t : Told) (s : State) (bound : Numbered) (r : Receipt) (request : Option Request) (reply : Reply) (used : ℕ)
+        → Follows c (with_given (bound.0, Some bound.1) t) (taken_up bound s) }
+    ensures reply { (c : Connection) (t : Told) (s : State) (bound : Numbered) (r : Receipt)
+        (request : Option Request) (reply : Reply) (used : ℕ) → Follows c t s → s.closed ≡ false
+        → s.bound ≡ Some bound → r.conf ≡ bound.0 → turn_of c bound.1 r (unit_under bound.1 s).found
+        ≡ replies request reply used → Follows c (with_receipt r t)
+        (replied c bound request reply used s) }
+    ensures end { (c : Connection) (t : Told) (s : State) (bound : Numbered) (r : Receipt)
         → Follows c t s → s.closed ≡ false → s.bound ≡ Some bound → r.conf ≡ bound.0
-        → turn_of c bound.1 r (unit_under bound.1 s).found ≡ replies request reply used
-        → Follows c (record t { receipts = t.receipts ++ r ∷ [] }) (replied c bound request reply used s) }
-    ensures end { (c : Connection) (t : Told) (s : State) (bound : Numbered) (r : Receipt) → Follows c t s
-        → s.closed ≡ false → s.bound ≡ Some bound → r.conf ≡ bound.0
         → turn_of c bound.1 r (unit_under bound.1 s).found ≡ ends
-        → Follows c (record t { receipts = t.receipts ++ r ∷ [] }) (closed_by bound.0 s) }
+        → Follows c (with_receipt r t) (closed_by bound.0 s) }
     ensures between { (c : Connection) (t : Told) (s : State) (r : Receipt) → Follows c t s
-        → s.closed ≡ false → s.bound ≡ None → head_begun s.unused ≡ false → ends_between r.kind ≡ true → s.last ≤ r.conf
-        → Follows c (record t { receipts = t.receipts ++ r ∷ []; given = (r.conf, None) ∷ t.given }) (given_up (closed_by r.conf s)) }
-    ensures given_up { (c : Connection) (t : Told) (s : State) → Follows c t s → Follows c t (given_up s) }
-    ensures shown { (c : Connection) (t : Told) (s : State) (front rest : List ℕ) → Follows c t s → s.out ≡ front ++ rest
-        → Follows c (record t { written = t.written ++ front }) (shown rest s) }
+        → s.closed ≡ false → s.bound ≡ None → head_begun s.unused ≡ false → ends_between r.kind
+        ≡ true → s.last ≤ r.conf → Follows c (with_receipt r (with_given (r.conf, None) t))
+        (given_up (closed_by r.conf s)) }
+    ensures given_up { (c : Connection) (t : Told) (s : State) → Follows c t s
+        → Follows c t (given_up s) }
+    ensures shown { (c : Connection) (t : Told) (s : State) (front rest : List ℕ) → Follows c t s
+        → s.out ≡ front ++ rest → Follows c (with_written front t) (shown rest s) }
 {
     laws_of_units();
 }
@@ -60,20 +64,25 @@ pub fn laws_of_steps()
 /// on. Where nothing is left to show, a connection is to be closed exactly where its session is, or where its input ended and
 /// no request is under way.
 pub fn laws_of_ends()
-    ensures session { (c : Connection) (t : Told) (s : State) (confs : List Configuration) → Follows c t s → IsSettled c s → Agrees confs t.given
+    ensures session { (c : Connection) (t : Told) (s : State) (confs : List Configuration)
+        → Follows c t s → IsSettled c s → Agrees confs t.given
         → session_of c confs (counted s.bound t.receipts) t.bytes s.ended
         ≡ Some (record { written = t.written ++ s.out; closed = s.closed || is_some s.bound }) }
-    ensures lines { (c : Connection) (t : Told) (s : State) (confs : List Configuration) → Follows c t s → IsSettled c s → Agrees confs t.given
+    ensures lines { (c : Connection) (t : Told) (s : State) (confs : List Configuration)
+        → Follows c t s → IsSettled c s → Agrees confs t.given
         → log_lines_of c confs t.receipts t.bytes s.ended ≡ Some s.lines }
-    ensures way { (c : Connection) (t : Told) (s : State) (confs : List Configuration) → Follows c t s → IsSettled c s → Agrees confs t.given
+    ensures way { (c : Connection) (t : Told) (s : State) (confs : List Configuration)
+        → Follows c t s → IsSettled c s → Agrees confs t.given
         → is_under_way c confs t.receipts t.bytes s.ended ≡ is_some s.bound }
-    ensures front { (c : Connection) (t : Told) (s : State) (confs : List Configuration) (receipts : List Receipt) (more : List ℕ) (ended : Bool) (session : Session)
-        → Follows c t s → Agrees confs t.given → Fits s.bound receipts → GoesOn s more ended
+    ensures front { (c : Connection) (t : Told) (s : State) (confs : List Configuration)
+        (receipts : List Receipt) (more : List ℕ) (ended : Bool) (session : Session) → Follows c t s
+        → Agrees confs t.given → Fits s.bound receipts → GoesOn s more ended
         → session_of c confs (t.receipts ++ receipts) (t.bytes ++ more) ended ≡ Some session
         → (rest : List ℕ) × (session.written ≡ (t.written ++ s.out) ++ rest) }
-    ensures over { (c : Connection) (t : Told) (s : State) (confs : List Configuration) → Follows c t s → IsSettled c s → Agrees confs t.given
-        → s.given_up ≡ false → s.out ≡ []
-        → (need_of c s ≡ Close) ↔ (is_over (session_of c confs t.receipts t.bytes s.ended) s.ended ≡ true) }
+    ensures over { (c : Connection) (t : Told) (s : State) (confs : List Configuration)
+        → Follows c t s → IsSettled c s → Agrees confs t.given → s.given_up ≡ false → s.out ≡ []
+        → (need_of c s ≡ Close) ↔ (is_over (session_of c confs t.receipts t.bytes s.ended) s.ended
+        ≡ true) }
 {
     laws_of_units();
 }
@@ -82,26 +91,32 @@ pub fn laws_of_ends()
 /// which it was asked. A request was turned away where no run was free for its record, or where the reply to another request
 /// came under its stream. Two asked values count as the same exactly where they are equal.
 pub fn laws_of_turns()
-    ensures app { (c : Connection) (conf : Configuration) (number stream : ℕ) (m : Message) (used : ℕ)
-        → is_app (target_of conf c.listener (request_of c.from c.to m)) ≡ true → 0 < stream
-        → turn_of c conf (receipt_of number stream App) (request m used)
-        ≡ replies (Some (request_of c.from c.to m)) (reply_to c conf (request_of c.from c.to m)) used }
+    ensures app { (c : Connection) (conf : Configuration) (number stream : ℕ) (m : Message)
+        (used : ℕ) → is_app (target_of conf c.listener (request_of c.from c.to m)) ≡ true
+        → 0 < stream → turn_of c conf (receipt_of number stream App) (request m used)
+        ≡ replies (Some (request_of c.from c.to m)) (reply_to c conf
+        (request_of c.from c.to m)) used }
     ensures own { (c : Connection) (conf : Configuration) (number : ℕ) (m : Message) (used : ℕ)
         → is_app (target_of conf c.listener (request_of c.from c.to m)) ≡ false
         → turn_of c conf (receipt_of number 0 Own) (request m used)
-        ≡ replies (Some (request_of c.from c.to m)) (reply_to c conf (request_of c.from c.to m)) used }
+        ≡ replies (Some (request_of c.from c.to m)) (reply_to c conf
+        (request_of c.from c.to m)) used }
     ensures refusal { (c : Connection) (conf : Configuration) (number status : ℕ)
-        → turn_of c conf (receipt_of number 0 Own) (bad status) ≡ replies None (error_reply status) 0 }
-    ensures busy { (c : Connection) (conf : Configuration) (number stream : ℕ) (m : Message) (used : ℕ) (cause : Why)
-        → is_app (target_of conf c.listener (request_of c.from c.to m)) ≡ true
-        → is_why (asked_of c conf stream (request_of c.from c.to m)) cause ≡ true
+        → turn_of c conf (receipt_of number 0 Own) (bad status)
+        ≡ replies None (error_reply status) 0 }
+    ensures busy { (c : Connection) (conf : Configuration) (number stream : ℕ) (m : Message)
+        (used : ℕ) (cause : Why) → is_app (target_of conf c.listener (request_of c.from c.to m))
+        ≡ true → is_why (asked_of c conf stream (request_of c.from c.to m)) cause ≡ true
         → turn_of c conf (receipt_of number stream (Busy cause)) (request m used)
         ≡ replies (Some (request_of c.from c.to m)) (error_reply 503) used }
-    ensures late { (c : Connection) (conf : Configuration) (number stream : ℕ) (m : Message) (used seconds deadline now : ℕ)
-        → timeout_in (target_of conf c.listener (request_of c.from c.to m)) ≡ Some seconds → 0 < stream → deadline ≤ now
-        → turn_of c conf (receipt_of number stream (Late deadline now)) (request m used)
+    ensures late { (c : Connection) (conf : Configuration) (number stream : ℕ) (m : Message)
+        (used seconds deadline now : ℕ)
+        → timeout_in (target_of conf c.listener (request_of c.from c.to m)) ≡ Some seconds
+        → 0 < stream → deadline ≤ now → turn_of c conf (receipt_of number stream
+        (Late deadline now)) (request m used)
         ≡ replies (Some (request_of c.from c.to m)) (error_reply 503) used }
-    ensures cut { (c : Connection) (conf : Configuration) (number : ℕ) → turn_of c conf (receipt_of number 0 Cut) cut ≡ ends }
+    ensures cut { (c : Connection) (conf : Configuration) (number : ℕ)
+        → turn_of c conf (receipt_of number 0 Cut) cut ≡ ends }
     ensures gone { (c : Connection) (conf : Configuration) (number stream : ℕ) (found : Found)
         → turn_of c conf (receipt_of number stream Gone) found ≡ ends }
     ensures memory { (c : Connection) (conf : Configuration) (number stream : ℕ) (found : Found)
@@ -113,32 +128,43 @@ pub fn laws_of_turns()
 /// fall, and there are at most 1,000 receipts. Where the input ended and each request was answered by a handler or by the
 /// server or was cut, under one configuration, it is the session with that configuration's limit and answers.
 pub fn laws_of_sessions()
-    ensures longer { (c : Connection) (confs more : List Configuration) (receipts : List Receipt) (bytes : List ℕ) (ended : Bool) (session : Session)
-        → session_of c confs receipts bytes ended ≡ Some session → session_of c (confs ++ more) receipts bytes ended ≡ Some session }
-    ensures lines { (c : Connection) (confs more : List Configuration) (receipts : List Receipt) (bytes : List ℕ) (ended : Bool) (lines : List ℕ)
-        → log_lines_of c confs receipts bytes ended ≡ Some lines → log_lines_of c (confs ++ more) receipts bytes ended ≡ Some lines }
-    ensures rises { (c : Connection) (confs : List Configuration) (receipts : List Receipt) (bytes : List ℕ) (ended : Bool) (session : Session)
+    ensures longer { (c : Connection) (confs more : List Configuration) (receipts : List Receipt)
+        (bytes : List ℕ) (ended : Bool) (session : Session)
+        → session_of c confs receipts bytes ended ≡ Some session
+        → session_of c (confs ++ more) receipts bytes ended ≡ Some session }
+    ensures lines { (c : Connection) (confs more : List Configuration) (receipts : List Receipt)
+        (bytes : List ℕ) (ended : Bool) (lines : List ℕ) → log_lines_of c confs receipts bytes ended
+        ≡ Some lines → log_lines_of c (confs ++ more) receipts bytes ended ≡ Some lines }
+    ensures rises { (c : Connection) (confs : List Configuration) (receipts : List Receipt)
+        (bytes : List ℕ) (ended : Bool) (session : Session)
         → session_of c confs receipts bytes ended ≡ Some session → NeverFall 0 receipts }
-    ensures count { (c : Connection) (confs : List Configuration) (receipts : List Receipt) (bytes : List ℕ) (ended : Bool) (session : Session)
+    ensures count { (c : Connection) (confs : List Configuration) (receipts : List Receipt)
+        (bytes : List ℕ) (ended : Bool) (session : Session)
         → session_of c confs receipts bytes ended ≡ Some session → length receipts ≤ request_limit }
-    ensures plain { (c : Connection) (confs : List Configuration) (conf : Configuration) (number : ℕ) (receipts : List Receipt) (bytes : List ℕ) (session : Session)
-        → slice_get confs number ≡ Some conf → ArePlain number receipts → session_of c confs receipts bytes true ≡ Some session
-        → session ≡ plain_session_of (plain_connection c conf) true bytes }
+    ensures plain { (c : Connection) (confs : List Configuration) (conf : Configuration)
+        (number : ℕ) (receipts : List Receipt) (bytes : List ℕ) (session : Session)
+        → slice_get confs number ≡ Some conf → ArePlain number receipts
+        → session_of c confs receipts bytes true ≡ Some session → session
+        ≡ plain_session_of (plain_connection c conf) true bytes }
 {}
 
 /// However a connection is called, its account stays sound: its state follows what came and went, each request that the server
 /// can answer itself is answered, and more requests may come while it is open.
 pub fn laws_of_calls()
     ensures opened { (c : Connection) → IsSound c opened }
-    ensures bytes { (c : Connection) (current : Numbered) (a : Account) (piece : List ℕ) → IsSound c a → Reaches current a
-        → a.state.ended ≡ false → a.state.given_up ≡ false → IsSound c (on_bytes c current piece a) }
-    ensures end { (c : Connection) (current : Numbered) (a : Account) → IsSound c a → Reaches current a → IsSound c (on_end c current a) }
-    ensures answer { (c : Connection) (current bound : Numbered) (a : Account) (r : Receipt) (request : Request) (reply : Reply) (used : ℕ)
-        → IsSound c a → Reaches current a → a.state.bound ≡ Some bound → r.conf ≡ bound.0
+    ensures bytes { (c : Connection) (current : Numbered) (a : Account) (piece : List ℕ)
+        → IsSound c a → Reaches current a → a.state.ended ≡ false → a.state.given_up ≡ false
+        → IsSound c (on_bytes c current piece a) }
+    ensures end { (c : Connection) (current : Numbered) (a : Account) → IsSound c a
+        → Reaches current a → IsSound c (on_end c current a) }
+    ensures answer { (c : Connection) (current bound : Numbered) (a : Account) (r : Receipt)
+        (request : Request) (reply : Reply) (used : ℕ) → IsSound c a → Reaches current a
+        → a.state.bound ≡ Some bound → r.conf ≡ bound.0
         → turn_of c bound.1 r (unit_under bound.1 a.state).found ≡ replies (Some request) reply used
         → IsSound c (on_answer c current bound r request reply used a) }
-    ensures gone { (c : Connection) (current : Numbered) (a : Account) (stream : ℕ) (k : Kind) → IsSound c a → Reaches current a
-        → ends_between k ≡ true → IsSound c (on_gone current.0 stream k a) }
+    ensures gone { (c : Connection) (current : Numbered) (a : Account) (stream : ℕ) (k : Kind)
+        → IsSound c a → Reaches current a → ends_between k ≡ true
+        → IsSound c (on_gone current.0 stream k a) }
     ensures wrote { (c : Connection) (a : Account) (n : ℕ) → IsSound c a → IsSound c (wrote n a) }
 {
     laws_of_units();

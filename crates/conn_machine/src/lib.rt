@@ -4,6 +4,8 @@
 mod answers;
 mod laws;
 mod receipt;
+#[cfg(test)]
+mod tests;
 
 pub use answers::{closes, return_reply};
 pub use laws::{laws_of_calls, laws_of_ends, laws_of_sessions, laws_of_steps, laws_of_turns};
