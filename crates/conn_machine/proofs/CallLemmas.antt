@@ -27,20 +27,20 @@ use Rattle.conn_machine.proofs.StepLemmas.{follows_begin, follows_fed, follows_e
 use Rattle.conn_machine.proofs.UnitLaws.{UnitLaws}
 
 -- what settling starts from, where at most so many requests may come
-record IsReady (c : Connection) (current : Numbered) (n : ℕ) (a : Account) : Type 0 where
-  follows : Follows c a.told a.state
-  over : a.state.closed ≡ true → a.state.bound ≡ None
-  quits : a.state.given_up ≡ true → a.state.closed ≡ true
-  more : a.state.closed ≡ false → 1 ≤ a.state.left
-  few : a.state.left ≤ n
-  most : a.state.left ≤ request_limit
-  reaches : Reaches current a
+pub record IsReady (c : Connection) (current : Numbered) (n : ℕ) (a : Account) : Type 0 where
+  pub follows : Follows c a.told a.state
+  pub over : a.state.closed ≡ true → a.state.bound ≡ None
+  pub quits : a.state.given_up ≡ true → a.state.closed ≡ true
+  pub more : a.state.closed ≡ false → 1 ≤ a.state.left
+  pub few : a.state.left ≤ n
+  pub most : a.state.left ≤ request_limit
+  pub reaches : Reaches current a
 
 some_none : {A : Type 0} (o : Option A) (x : A) → o ≡ None → o ≢ Some x
-some_none o x none some = absurd (cc (sym none ∙ some))
+some_none o x first second = absurd (cc (sym first ∙ second))
 
 true_false : (b : Bool) → b ≡ true → b ≢ false
-true_false b yes no = absurd (cc (sym yes ∙ no))
+true_false b first second = absurd (cc (sym first ∙ second))
 
 -- it is settled already
 sound_closed : (c : Connection) (current : Numbered) (n : ℕ) (a : Account) → IsReady c current n a → a.state.closed ≡ true → IsSound c a

@@ -30,8 +30,8 @@ opened = record { told = nothing; state = begin }
 
 -- the request under way, or refused bytes, get a reply
 abbrev pub replied_with : Connection → Numbered → Receipt → Option Request → Reply → ℕ → Account → Account
-replied_with c bound receipt request reply used a =
-    record { told = with_receipt receipt a.told; state = replied c bound request reply used a.state }
+replied_with c bound receipt asked reply used a =
+    record { told = with_receipt receipt a.told; state = replied c bound asked reply used a.state }
 
 -- it ends without one
 abbrev pub closed_with : Numbered → Receipt → Account → Account

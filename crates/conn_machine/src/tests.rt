@@ -57,7 +57,7 @@ fn a_return_has_its_location(rt: HostRuntime) -> Result<(), Fail> {
     write_http(alloc, &reply, false, false, &mut out)?;
     let expected =
         b"HTTP/1.1 301 Moved Permanently\r\nLocation: https://a/\r\nContent-Length: 0\r\n\r\n";
-    assert!(&rt; out.as_slice() == expected.as_slice());
+    assert!(rt; out.as_slice() == expected.as_slice());
     Ok(())
 }
 
@@ -65,10 +65,10 @@ fn a_return_has_its_location(rt: HostRuntime) -> Result<(), Fail> {
 fn the_last_request_closes(rt: HostRuntime) -> Result<(), Fail> {
     let alloc = rt.alloc();
     let request = get(alloc, 1)?;
-    assert!(&rt; !closes(Some(&request), 2));
-    assert!(&rt; closes(Some(&request), 1));
-    assert!(&rt; closes(Some(&get(alloc, 0)?), 2));
-    assert!(&rt; closes(None, 2));
+    assert!(rt; !closes(Some(&request), 2));
+    assert!(rt; closes(Some(&request), 1));
+    assert!(rt; closes(Some(&get(alloc, 0)?), 2));
+    assert!(rt; closes(None, 2));
     Ok(())
 }
 
@@ -83,7 +83,7 @@ fn receipts_keep_their_order(rt: HostRuntime) -> Result<(), Fail> {
         })?;
     }
     let receipts = Receipts::of(list);
-    assert!(&rt; receipts.as_slice().len() == 2);
-    assert!(&rt; receipts.as_slice()[0].stream == 1);
+    assert!(rt; receipts.as_slice().len() == 2);
+    assert!(rt; receipts.as_slice()[0].stream == 1);
     Ok(())
 }
