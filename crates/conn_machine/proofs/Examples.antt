@@ -21,8 +21,9 @@ use Rattle.http_front.specs.NextUnit.{next_unit}
 use Rattle.http_front.specs.Content.{content_of}
 use Rattle.http_front.specs.Session.{loopback}
 use Rattle.http_front.specs.Written.{http_bytes, phrases}
-use Rattle.conn_machine.specs.declared.receipt.Kind.TheVariants.{App, Own}
+use Rattle.conn_machine.specs.declared.receipt.Kind.TheVariants.{App, Gone, Own}
 use Rattle.conn_machine.specs.Answers.{Connection, reply_to, reply_line}
+use Rattle.conn_machine.specs.Asking.{asked_of}
 use Rattle.conn_machine.specs.Sessions.{course_from, session_of, log_lines_of}
 use Rattle.conn_machine.specs.Turns.{receipt_of, turn_of}
 
@@ -123,3 +124,49 @@ changed-length = refl
 changed-session : session_of connection (conf_with changed None ∷ []) (receipt_of 0 1 App ∷ []) one_get true ≡ Some (record { written = changed_bytes; closed = false })
 unfolding course_from turn_of reply_to reply_line walk next_unit front_of blank_len block_len content_of percent_decode head_of head_in print_request is_token_byte trim_ows is_utf8 chars encode http_bytes phrases digits changed_bytes changed anything conf_with connection hello one_get line
 changed-session = refl
+
+-- a path that is rewritten
+get_a : Request
+get_a = record {
+  method = codes "GET";
+  target = codes "/a?x=1";
+  path = codes "/a";
+  query = codes "x=1";
+  host = codes "a";
+  minor = 1;
+  fields = [];
+  from = record { ip = loopback; port = 40000 };
+  to = record { ip = loopback; port = 8080 };
+  body = [];
+}
+
+rewriting : Step
+rewriting = record {
+  conditions = anything;
+  action = Pass (codes "applications/hello");
+  location = None;
+  rewrite = Some (codes "/v1$uri");
+  changes = [];
+}
+
+rewritten-target : (asked_of connection (conf_with rewriting None) 1 get_a).request.target ≡ codes "/v1/a?x=1"
+unfolding asked_of walk percent_decode encode is_utf8 chars rewriting anything conf_with connection hello get_a
+rewritten-target = refl
+
+rewritten-path : (asked_of connection (conf_with rewriting None) 1 get_a).request.path ≡ codes "/v1/a"
+unfolding asked_of walk percent_decode encode is_utf8 chars rewriting anything conf_with connection hello get_a
+rewritten-path = refl
+
+-- an input that ends inside a head asks for nothing, and one that ends behind a complete head for a receipt
+cut-head : session_of connection (conf_with moved None ∷ []) [] (codes "GET / HT") true ≡ Some (record { written = []; closed = false })
+unfolding course_from next_unit front_of blank_len block_len
+cut-head = refl
+
+no-receipt : session_of connection (conf_with moved None ∷ []) [] one_get true ≡ None
+unfolding course_from next_unit front_of blank_len block_len one_get line
+no-receipt = refl
+
+-- a client that hung up between two requests
+gone-between : session_of connection (conf_with moved None ∷ []) (receipt_of 0 0 Gone ∷ []) [] false ≡ Some (record { written = []; closed = true })
+unfolding course_from next_unit front_of blank_len block_len moved conf_with
+gone-between = refl

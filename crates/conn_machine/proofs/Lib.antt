@@ -1,11 +1,13 @@
 mod CallLemmas
 mod CourseLemmas
 mod EndLemmas
+mod Examples
 mod FrontLaws
 mod NamedTurns
 mod PlainLemmas
 mod SameLemmas
 mod StepLemmas
 mod TurnLemmas
+mod UnchangedLemmas
 mod UnitLaws
 mod WalkLemmas

@@ -10,8 +10,10 @@ use Rattle.route_match.specs.Target.{location_of, outcome_of}
 use Rattle.route_match.specs.declared.target.Target.{Target}
 use Rattle.route_match.specs.declared.target.Target.TheVariants.{App, Return, Status}
 use Rattle.http_front.specs.Message.{is_head_request, is_last_request}
+use Rattle.access_log.specs.Line.{log_line}
+use Rattle.header_rewrite.specs.ResponseHeaders.{fielded_of}
+use Rattle.header_rewrite.specs.Rewrite.{rewritten_of}
 use Rattle.http_front.specs.Written.{error_bytes, error_reply, http_bytes, written_content}
-use Rattle.conn_machine.specs.Later.{fielded_of, log_line, rewritten_of}
 
 -- a connection: the name of the listener that accepted it, the client's address and the one at which it was accepted, and
 -- the reply that the handler of a name gives to a request

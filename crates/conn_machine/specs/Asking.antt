@@ -10,8 +10,8 @@ use Rattle.conf_validate.specs.Configuration.{Configuration}
 use Rattle.route_match.specs.Target.{outcome_of, target_of, last_step_of}
 use Rattle.route_match.specs.declared.target.Target.{Target}
 use Rattle.route_match.specs.declared.target.Target.TheVariants.{App, Return, Status}
+use Rattle.header_rewrite.specs.Rewrite.{rewritten_of}
 use Rattle.conn_machine.specs.Answers.{Connection, handler_of}
-use Rattle.conn_machine.specs.Later.{rewritten_of}
 
 -- the request goes to an application
 abbrev pub is_app : Target → Bool

@@ -1,10 +1,9 @@
 pub mod Answers
 pub mod Asking
 pub mod Calls
-pub mod Later
 pub mod Laws
-pub mod Unchanged
 pub mod Sessions
 pub mod States
 pub mod Steps
 pub mod Turns
+pub mod Unchanged

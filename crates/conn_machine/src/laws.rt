@@ -3,7 +3,10 @@ ghost use Rattle.std.specs.Prelude.{◌≡◌, ◌≢◌, ◌↔◌, ◌<◌, �
 ghost use Rattle.std.specs.Option.{is_some};
 ghost use Rattle.unit_types.specs.declared.message.Reply.{Reply};
 ghost use Rattle.unit_types.specs.declared.message.Request.{Request};
-ghost use Rattle.conf_validate.specs.Configuration.{Configuration};
+ghost use Rattle.serde_json.specs.Data.{Data};
+ghost use Rattle.conf_validate.specs.Configuration.{Configuration, configuration_of};
+ghost use Rattle.conf_validate.specs.Laws.{HasNoChanges};
+ghost use Rattle.conf_validate.specs.Plain.{IsPlain};
 ghost use Rattle.http_front.specs.Front.{head_begun};
 ghost use Rattle.http_front.specs.Message.{Message, request_of};
 ghost use Rattle.http_front.specs.NextUnit.{Found, bad, cut, request};
@@ -23,9 +26,12 @@ ghost use Rattle.conn_machine.specs.Laws.{ArePlain, NeverFall, plain_connection}
 ghost use Rattle.conn_machine.specs.Sessions.{course_of, is_under_way, log_lines_of, session_of};
 ghost use Rattle.conn_machine.specs.States.{Agrees, Fits, Follows, GoesOn, IsSettled, Numbered, State, Told, counted, is_over, need_of, unit_under};
 ghost use Rattle.conn_machine.specs.Steps.{at_end, begin, closed_by, fed, given_up, nothing, replied, shown, taken_up, with_bytes, with_given, with_receipt, with_written};
+ghost use Rattle.conn_machine.specs.Unchanged.{plain_reply_to, unchanged_reply_to};
 ghost use Rattle.conn_machine.specs.Turns.{ends, ends_between, is_why, receipt_of, replies, turn_of};
 
+use conf_validate::{documents_without_changes_change_nothing, plain_documents_change_nothing};
 use http_front::laws_of_units;
+use route_match::plain_documents_need_no_variables;
 
 /// However a connection goes, its state follows what came and went: more bytes and their end, a head that is complete, a
 /// reply, an end without a reply, and what is shown as written.
@@ -168,4 +174,17 @@ pub fn laws_of_calls()
     ensures wrote { (c : Connection) (a : Account) (n : ℕ) → IsSound c a → IsSound c (wrote n a) }
 {
     laws_of_units();
+}
+
+/// The replies of a document whose steps neither rewrite nor change anything are those of a definition that knows neither,
+/// and those of a plain document are those of a definition that knows no variables either.
+pub fn answers_without_changes()
+    ensures unchanged { (c : Connection) (document : Data) (r : Request) → HasNoChanges document
+        → reply_to c (configuration_of document) r ≡ unchanged_reply_to c (configuration_of document) r }
+    ensures plain { (c : Connection) (document : Data) (r : Request) → IsPlain document
+        → reply_to c (configuration_of document) r ≡ plain_reply_to c (configuration_of document) r }
+{
+    documents_without_changes_change_nothing();
+    plain_documents_change_nothing();
+    plain_documents_need_no_variables();
 }

@@ -8,5 +8,8 @@ mod receipt;
 mod tests;
 
 pub use answers::{closes, return_reply};
-pub use laws::{laws_of_calls, laws_of_ends, laws_of_sessions, laws_of_steps, laws_of_turns};
+pub use laws::{
+    answers_without_changes, laws_of_calls, laws_of_ends, laws_of_sessions, laws_of_steps,
+    laws_of_turns,
+};
 pub use receipt::{Kind, Need, Receipt, Receipts, Why};
