@@ -8,6 +8,7 @@ use Rattle.percent_encoding.specs.Percent.{percent_decode}
 use Rattle.unit_types.specs.declared.message.Addr.{Addr}
 use Rattle.unit_types.specs.declared.message.Request.{Request}
 use Rattle.unit_types.specs.declared.message.Reply.{Reply}
+use Rattle.access_log.specs.Line.{line_limit}
 use Rattle.conf_validate.specs.Configuration.{Configuration, default_format}
 use Rattle.conf_validate.specs.declared.conf.Action.{Action}
 use Rattle.conf_validate.specs.declared.conf.Action.TheVariants.{Pass, Return}
@@ -98,7 +99,7 @@ logged = record { conditions = anything; action = Pass (codes "applications/hell
 
 logged-line : log_lines_of connection (conf_with logged (Some default_format) ∷ []) (receipt_of 0 1 App ∷ []) one_get true
     ≡ Some (codes "127.0.0.1 \"GET / HTTP/1.1\" 200 14 \"-\" \"-\"" ++ 10 ∷ [])
-unfolding course_from turn_of reply_to reply_line walk next_unit front_of blank_len block_len content_of percent_decode head_of head_in print_request is_token_byte trim_ows is_utf8 chars encode http_bytes phrases digits logged anything conf_with connection hello one_get line
+unfolding course_from turn_of reply_to reply_line walk next_unit front_of blank_len block_len content_of percent_decode head_of head_in print_request is_token_byte trim_ows is_utf8 chars encode http_bytes phrases digits line_limit logged anything conf_with connection hello one_get line
 logged-line = refl
 
 -- changed header fields: one is new, and one is taken away

@@ -9,7 +9,7 @@ use Rattle.http_front.specs.Content.{content_of}
 use Rattle.http_front.specs.Front.{Front, unready, too_long, block, blank_len, block_len, front_of, is_ready, head_begun}
 use Rattle.http_front.specs.Head.{head_of}
 use Rattle.http_front.specs.Message.{fields_of}
-use Rattle.http_front.specs.NextUnit.{Found, cut, finished, NextUnit, plainly, end_found, content_found, checked_unit, block_unit, front_unit, next_unit}
+use Rattle.http_front.specs.NextUnit.{Found, cut, finished, wait, NextUnit, plainly, end_found, content_found, checked_unit, block_unit, front_unit, next_unit}
 
 -- nothing is found, and nothing is due
 abbrev pub IsIdle : NextUnit → Type 0
@@ -29,6 +29,18 @@ unfolding next_unit
 unbegun_idle bytes limit is =
     let rest = drop (blank_len bytes) bytes in
     idle_front limit (blank_len bytes) rest (front_of head_limit rest) is
+
+-- more bytes are needed where the input goes on
+waits_front : (limit blank : ℕ) (bytes : List ℕ) (front : Front) → is_ready front ≡ false → (front_unit limit blank bytes false front).found ≡ wait
+waits_front limit blank bytes unready is = refl
+waits_front limit blank bytes too_long is = absurd (cc is)
+waits_front limit blank bytes (block n) is = absurd (cc is)
+
+pub unbegun_waits : (bytes : List ℕ) (limit : ℕ) → head_begun bytes ≡ false → (next_unit bytes false limit).found ≡ wait
+unfolding next_unit
+unbegun_waits bytes limit is =
+    let rest = drop (blank_len bytes) bytes in
+    waits_front limit (blank_len bytes) rest (front_of head_limit rest) is
 
 -- ---- an input that ended between requests has no complete head
 

@@ -4,6 +4,7 @@ mod EndLemmas
 mod Examples
 mod FrontLaws
 mod NamedTurns
+mod NeedLemmas
 mod PlainLemmas
 mod SameLemmas
 mod StepLemmas

@@ -9,14 +9,14 @@ ghost use Rattle.conf_validate.specs.Laws.{HasNoChanges};
 ghost use Rattle.conf_validate.specs.Plain.{IsPlain};
 ghost use Rattle.http_front.specs.Front.{head_begun};
 ghost use Rattle.http_front.specs.Message.{Message, request_of};
-ghost use Rattle.http_front.specs.NextUnit.{Found, bad, cut, request};
+ghost use Rattle.http_front.specs.NextUnit.{Found, bad, cut, next_unit, request, wait};
 ghost use Rattle.http_front.specs.Session.{Session, plain_session_of, request_limit};
 ghost use Rattle.http_front.specs.Written.{error_reply};
 ghost use Rattle.request_context.specs.declared.asked.Asked.{Asked};
 ghost use Rattle.route_match.specs.Target.{target_of};
 ghost use Rattle.conn_machine.specs.declared.receipt.Kind.{Kind};
 ghost use Rattle.conn_machine.specs.declared.receipt.Kind.TheVariants.{App, Busy, Cut, Gone, Late, Memory, Own};
-ghost use Rattle.conn_machine.specs.declared.receipt.Need.TheVariants.{Close};
+ghost use Rattle.conn_machine.specs.declared.receipt.Need.TheVariants.{Close, Read};
 ghost use Rattle.conn_machine.specs.declared.receipt.Receipt.{Receipt};
 ghost use Rattle.conn_machine.specs.declared.receipt.Why.{Why};
 ghost use Rattle.conn_machine.specs.Answers.{Connection, reply_to};
@@ -24,7 +24,7 @@ ghost use Rattle.conn_machine.specs.Asking.{asked_of, is_app, is_same_asked, tim
 ghost use Rattle.conn_machine.specs.Calls.{Account, IsSound, Reaches, on_answer, on_bytes, on_end, on_gone, opened, wrote};
 ghost use Rattle.conn_machine.specs.Laws.{ArePlain, NeverFall, plain_connection};
 ghost use Rattle.conn_machine.specs.Sessions.{course_of, is_under_way, log_lines_of, session_of};
-ghost use Rattle.conn_machine.specs.States.{Agrees, Fits, Follows, GoesOn, IsSettled, Numbered, State, Told, counted, is_over, need_of, unit_under};
+ghost use Rattle.conn_machine.specs.States.{Agrees, Fits, Follows, GoesOn, IsSettled, Numbered, State, Told, asking_of, counted, is_ask, is_over, need_of, unit_under};
 ghost use Rattle.conn_machine.specs.Steps.{at_end, begin, closed_by, fed, given_up, nothing, replied, shown, taken_up, with_bytes, with_given, with_receipt, with_written};
 ghost use Rattle.conn_machine.specs.Unchanged.{plain_reply_to, unchanged_reply_to};
 ghost use Rattle.conn_machine.specs.Turns.{ends, ends_between, is_why, receipt_of, replies, turn_of};
@@ -68,7 +68,8 @@ pub fn laws_of_steps()
 /// Between two calls what was shown and what isn't yet shown, together, are the session of all that came, and the lines are
 /// its lines; a request under way counts there as one whose client hung up. Both are a front of the session however it goes
 /// on. Where nothing is left to show, a connection is to be closed exactly where its session is, or where its input ended and
-/// no request is under way.
+/// no request is under way. Where it needs bytes, more are needed to tell what stands at their front. Something is asked
+/// exactly where a reply is needed.
 pub fn laws_of_ends()
     ensures session { (c : Connection) (t : Told) (s : State) (confs : List Configuration)
         → Follows c t s → IsSettled c s → Agrees confs t.given
@@ -89,6 +90,10 @@ pub fn laws_of_ends()
         → Follows c t s → IsSettled c s → Agrees confs t.given → s.given_up ≡ false → s.out ≡ []
         → (need_of c s ≡ Close) ↔ (is_over (session_of c confs t.receipts t.bytes s.ended) s.ended
         ≡ true) }
+    ensures reads { (c : Connection) (s : State) → IsSettled c s → need_of c s ≡ Read
+        → ((bound : Numbered) → s.bound ≡ Some bound → (unit_under bound.1 s).found ≡ wait)
+        × (s.bound ≡ None → (limit : ℕ) → (next_unit s.unused s.ended limit).found ≡ wait) }
+    ensures asks { (c : Connection) (s : State) → is_some (asking_of c s) ≡ is_ask (need_of c s) }
 {
     laws_of_units();
 }

@@ -1,4 +1,5 @@
 use Rattle.conn_machine.proofs.EndLemmas.{session_now, lines_now, way_now, front_now, over_now}
+use Rattle.conn_machine.proofs.NeedLemmas.{reads_now, asking_now}
 use Rattle.conn_machine.proofs.UnitLaws.{UnitLaws}
 use Rattle.conn_machine.proofs.laws.laws_of_ends.Goals as goal
 use Rattle.conn_machine.proofs.laws.laws_of_ends.Goals.{After-laws_of_units}
@@ -26,3 +27,9 @@ returns-clause-front c connection t s confs receipts more ended session is agree
 
 pub returns-clause-over : goal.returns-clause-over
 returns-clause-over c connection t s confs is settled agrees stays_up empty = over_now connection t s confs is settled agrees stays_up empty
+
+pub returns-clause-reads : goal.returns-clause-reads
+returns-clause-reads c connection s settled is = reads_now connection s settled is
+
+pub returns-clause-asks : goal.returns-clause-asks
+returns-clause-asks c connection s = asking_now connection s
