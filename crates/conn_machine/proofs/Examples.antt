@@ -10,7 +10,6 @@ use Rattle.unit_types.specs.declared.message.Request.{Request}
 use Rattle.unit_types.specs.declared.message.Reply.{Reply}
 use Rattle.access_log.specs.Line.{line_limit}
 use Rattle.conf_validate.specs.Configuration.{Configuration, default_format}
-use Rattle.conf_validate.specs.declared.conf.Action.{Action}
 use Rattle.conf_validate.specs.declared.conf.Action.TheVariants.{Pass, Return}
 use Rattle.conf_validate.specs.declared.conf.Goal.TheVariants.{Application, Route}
 use Rattle.conf_validate.specs.declared.conf.Step.{Step}
@@ -160,14 +159,14 @@ rewritten-path = refl
 
 -- an input that ends inside a head asks for nothing, and one that ends behind a complete head for a receipt
 cut-head : session_of connection (conf_with moved None ∷ []) [] (codes "GET / HT") true ≡ Some (record { written = []; closed = false })
-unfolding course_from next_unit front_of blank_len block_len
+unfolding course_from front_of blank_len block_len
 cut-head = refl
 
 no-receipt : session_of connection (conf_with moved None ∷ []) [] one_get true ≡ None
-unfolding course_from next_unit front_of blank_len block_len one_get line
+unfolding course_from front_of blank_len block_len one_get line
 no-receipt = refl
 
 -- a client that hung up between two requests
 gone-between : session_of connection (conf_with moved None ∷ []) (receipt_of 0 0 Gone ∷ []) [] false ≡ Some (record { written = []; closed = true })
-unfolding course_from next_unit front_of blank_len block_len moved conf_with
+unfolding course_from front_of blank_len block_len
 gone-between = refl

@@ -2,8 +2,6 @@
 use Rattle.std.proofs.Common.{ℕ, ◌≡◌, ◌≢◌, ◌+◌, refl, ap, ◌∙◌, List, take, drop, length, [], Bool, true, false, ◌==◌, ◌⊎◌, inl, inr, Option, Some, None}
 use Rattle.httparse.specs.Grammar.{RequestHead}
 use Rattle.unit_types.specs.Limits.{head_limit}
-use Rattle.http_front.specs.declared.content.Content.{Content}
-use Rattle.http_front.specs.declared.content.Content.TheVariants.{Whole, Refused, Open}
 use Rattle.http_front.specs.Checks.{has_too_many_lines, refusal_of}
 use Rattle.http_front.specs.Content.{content_of}
 use Rattle.http_front.specs.Front.{Front, unready, too_long, block, blank_len, block_len, front_of, is_ready, head_begun}
@@ -44,15 +42,16 @@ unbegun_waits bytes limit is =
 
 -- ---- an input that ended between requests has no complete head
 
-content_unfinished : (h : RequestHead) (used : ℕ) (ended : Bool) (c : Content) → content_found h used ended c ≢ finished
-content_unfinished h used ended (Whole content len) is = cc
-content_unfinished h used ended (Refused status) is = cc
-content_unfinished h used true Open is = cc
-content_unfinished h used false Open is = cc
+content_unfinished : (h : RequestHead) (limit used : ℕ) (rest : List ℕ) (ended : Bool)
+    → (content_found h used ended (content_of limit (fields_of h) rest)) ≢ finished
+content_unfinished h limit used rest true =
+    elim (content_of limit (fields_of h) rest) as (λ c. content_found h used true c ≢ finished) [ _ ↦ λ is. cc ]
+content_unfinished h limit used rest false =
+    elim (content_of limit (fields_of h) rest) as (λ c. content_found h used false c ≢ finished) [ _ ↦ λ is. cc ]
 
 checked_unfinished : (h : RequestHead) (limit used : ℕ) (rest : List ℕ) (ended : Bool) (refusal : Option ℕ) → (checked_unit h limit used rest ended refusal).found ≢ finished
 checked_unfinished h limit used rest ended (Some status) is = cc
-checked_unfinished h limit used rest ended None is = content_unfinished h used ended (content_of limit (fields_of h) rest) is
+checked_unfinished h limit used rest ended None is = content_unfinished h limit used rest ended is
 
 block_unfinished : (many : Bool) (limit used : ℕ) (rest : List ℕ) (ended : Bool) (head : Option RequestHead) → (block_unit many limit used rest ended head).found ≢ finished
 block_unfinished true limit used rest ended head is = cc
