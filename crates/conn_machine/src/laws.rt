@@ -68,8 +68,8 @@ pub fn laws_of_steps()
 /// Between two calls what was shown and what isn't yet shown, together, are the session of all that came, and the lines are
 /// its lines; a request under way counts there as one whose client hung up. Both are a front of the session however it goes
 /// on. Where nothing is left to show, a connection is to be closed exactly where its session is, or where its input ended and
-/// no request is under way. Where it needs bytes, nothing is found to answer yet. Something is asked
-/// exactly where a reply is needed.
+/// no request is under way. Where it needs bytes, nothing is found to answer yet. Something is asked exactly where a reply is
+/// needed.
 pub fn laws_of_ends()
     ensures session { (c : Connection) (t : Told) (s : State) (confs : List Configuration)
         → Follows c t s → IsSettled c s → Agrees confs t.given
