@@ -1,0 +1,14 @@
+mod CallLemmas
+mod CourseLemmas
+mod EndLemmas
+mod Examples
+mod FrontLaws
+mod NamedTurns
+mod NeedLemmas
+mod PlainLemmas
+mod SameLemmas
+mod StepLemmas
+mod TurnLemmas
+mod UnchangedLemmas
+mod UnitLaws
+mod WalkLemmas

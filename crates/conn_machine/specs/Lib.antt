@@ -1,0 +1,9 @@
+pub mod Answers
+pub mod Asking
+pub mod Calls
+pub mod Laws
+pub mod Sessions
+pub mod States
+pub mod Steps
+pub mod Turns
+pub mod Unchanged

@@ -1,0 +1,61 @@
+//! The replies that the server gives itself, and behind which answers a connection closes.
+ghost use Rattle.std.specs.Prelude.{◌≡◌, ◌<◌, IfOk, option_map};
+ghost use Rattle.conn_machine.specs.Answers as spec;
+
+use conf_validate::Conf;
+use http_front::{error_reply, is_last_request};
+use route_match::location_of;
+use std::alloc::{AllocError, Global};
+use unit_types::{Bytes, Field, Fields, Reply, Request};
+
+/// The least status of an error (RFC 9110, section 15.5).
+const LEAST_ERROR: u16 = 400;
+
+/// The reply of a step that returns a status: below 400 its location, expanded with the request, and no content; from 400
+/// on the error reply.
+///
+/// Fails for want of memory alone.
+pub fn return_reply(
+    alloc: Global,
+    conf: &Conf,
+    step: usize,
+    status: u16,
+    request: &Request,
+) -> Result<Reply, AllocError>
+    requires { status < 1000 }
+    ensures { IfOk result (λ reply. reply ≡ spec.return_reply conf.now step status request.now) }
+{
+    if status < LEAST_ERROR {
+        let location = location_of(alloc, conf, step, request)?;
+        Ok(Reply {
+            status,
+            fields: location_fields(alloc, location)?,
+            body: Bytes::of(Vec::new(alloc)),
+        })
+    } else {
+        error_reply(alloc, status)
+    }
+}
+
+/// The Location field (RFC 9110, section 10.2.2) of a return that has a location.
+fn location_fields(alloc: Global, location: Option<Bytes>) -> Result<Fields, AllocError>
+    ensures { IfOk result (λ fields. fields ≡ spec.location_fields location) }
+{
+    let mut list = Vec::new(alloc);
+    if let Some(value) = location {
+        let name = Bytes::copy_of(alloc, b"Location")?;
+        list.push(Field { name, value })?;
+    }
+    Ok(Fields::of(list))
+}
+
+/// Whether the connection closes behind the answer to a request, of which `left` may come with this one, or behind the
+/// answer to bytes that are refused, where no request was read.
+pub fn closes(request: Option<&Request>, left: u64) -> bool
+    ensures { result ≡ spec.closes (option_map (λ r. r.now) request.entry) left }
+{
+    match request {
+        Some(request) => is_last_request(request) || left.saturating_sub(1) == 0,
+        None => true,
+    }
+}

@@ -1,0 +1,15 @@
+//! One connection as a machine: what its session writes, by how each of its requests ended.
+#![tactic(auto)]
+
+mod answers;
+mod laws;
+mod receipt;
+#[cfg(test)]
+mod tests;
+
+pub use answers::{closes, return_reply};
+pub use laws::{
+    answers_without_changes, laws_of_calls, laws_of_ends, laws_of_sessions, laws_of_steps,
+    laws_of_turns,
+};
+pub use receipt::{Kind, Need, Receipt, Receipts, Why};
