@@ -1,11 +1,9 @@
 -- The path of a broken rule is a text.
-use Rattle.std.proofs.Common.{◌≡◌, ℕ, ◌+◌, Bool, true, false, not, ◌&&◌, List, [], ◌∷◌, ◌++◌, Option, Some, None, IfSome, IsUtf8, decimal, subst}
+use Rattle.std.proofs.Common.{◌≡◌, ℕ, ◌+◌, Bool, true, false, not, List, [], ◌∷◌, ◌++◌, Option, Some, None, IfSome, IsUtf8, decimal, subst}
 use Rattle.std.proofs.lemmas.Str.{IsUtf8-append, IsUtf8-nil}
-use Rattle.std.specs.Bool.{⊤}
 use Rattle.serde_json.specs.Data.{Data, null, boolean, number, string, array, object, Items, no_items, item, Members, no_members, member}
 use Rattle.conf_tree.specs.Document.{IsDocument, AreDocuments, AreMembers}
 use Rattle.conf_validate.specs.Forms.{is_again}
-use Rattle.conf_validate.specs.Choices.{has}
 use Rattle.conf_validate.specs.Table.{Table, Entry, whole_table}
 use Rattle.conf_validate.specs.Valid.{Context, below, broken, broken_if, fault_of, for_some, has_handler, has_required, has_target, is_choice_at, is_in_range, items_fault, level, members_fault, or_then, place_of, text_fault, value_fault}
 use Rattle.conf_validate.specs.declared.fault.Invalid.{Invalid}
@@ -13,7 +11,6 @@ use Rattle.conf_validate.specs.declared.place.Form.{Form}
 use Rattle.conf_validate.specs.declared.place.Names.{Names}
 use Rattle.conf_validate.specs.declared.place.Place.{Place}
 use Rattle.conf_validate.specs.declared.place.Place.TheVariants as place
-use Rattle.conf_validate.specs.declared.place.Range.{Range}
 use Rattle.conf_validate.proofs.PathLemmas.{decimal_text, level_text}
 
 abbrev pub HasText : Option Invalid → Type 0

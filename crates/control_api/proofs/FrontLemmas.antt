@@ -1,13 +1,12 @@
 -- A reader of bytes behind which the input ended tells what stands at their front, behind `Continue` where that is due.
-use Rattle.std.proofs.Common.{◌≡◌, ℕ, ◌<◌, ◌≤◌, Bool, true, false, not, ◌&&◌, List, ◌++◌, Option, Some, None, if◌then◌else◌, refl, sym, ap, ◌∙◌, arith}
-use Rattle.std.specs.Bool.{⊤}
+use Rattle.std.proofs.Common.{◌≡◌, ℕ, ◌<◌, ◌≤◌, Bool, true, false, ◌&&◌, List, None, if◌then◌else◌, refl, ap, arith}
 use Rattle.serde_json.specs.Data.{Data}
 use Rattle.http_front.specs.Front.{head_begun}
 use Rattle.http_front.specs.NextUnit.{Found, request, bad, cut, finished, wait, NextUnit, next_unit}
 use Rattle.http_front.specs.Reading.{Reading, answer_at, behind_unit, kept_limit, limit_or, next_answer, next_reading, reading_of, unit_answer}
 use Rattle.http_front.specs.declared.next_unit.Next.{Next}
 use Rattle.http_front.specs.declared.next_unit.Next.TheVariants as next
-use Rattle.control_api.specs.Control.{content_limit, found_outcome, Outcome}
+use Rattle.control_api.specs.Control.{content_limit, found_outcome}
 use Rattle.control_api.specs.Plans.{IsSoundNext, next_outcome, nowhere}
 
 abbrev pub reading_at_end : List ℕ → Reading

@@ -1,5 +1,5 @@
 -- Keys: texts cut at slashes, and keys that are texts.
-use Rattle.std.proofs.Common.{◌≡◌, ℕ, List, [], ◌∷◌, ◌++◌, length, Bool, true, false, map, All, IsUtf8, Result, Ok, Err, MatchResult, is_ok, refl, ap, sym, ◌∙◌, Some, None, arith, append_assoc}
+use Rattle.std.proofs.Common.{◌≡◌, ℕ, List, [], ◌∷◌, ◌++◌, length, Bool, true, false, map, All, IsUtf8, Result, Ok, Err, MatchResult, is_ok, refl, ap, sym, Some, None, arith, append_assoc}
 use Rattle.std.proofs.lemmas.Bool.{and_parts}
 use Rattle.std.proofs.lemmas.List.Elements.{All-cons, All-nil}
 use Rattle.std.proofs.lemmas.Str.{IsUtf8-from_is_utf8, is_utf8-from_IsUtf8}

@@ -1,7 +1,7 @@
-use Rattle.std.proofs.Common.{◌≡◌, ◌∙◌, List, ℕ, Bool, true, false, subst, sym}
+use Rattle.std.proofs.Common.{◌∙◌, List, ℕ, true, false, subst, sym}
 use Rattle.http_front.specs.Kept.{HasRead}
 use Rattle.http_front.specs.NextUnit.{next_unit}
-use Rattle.http_front.specs.Reading.{next_answer, next_reading, reading_of}
+use Rattle.http_front.specs.Reading.{next_reading, reading_of}
 use Rattle.control_api.specs.Control.{content_limit}
 use Rattle.control_api.specs.Plans.{IsSoundNext, nowhere}
 use Rattle.control_api.proofs.FrontLemmas.{behind_told, plain, reading_at_end, sound_next, told}

@@ -1,4 +1,4 @@
-use Rattle.std.proofs.Common.{◌≡◌, ◌∙◌, ◌+◌, ◌-◌, ◌<◌, List, length, map, ap, subst, arith}
+use Rattle.std.proofs.Common.{◌≡◌, ◌∙◌, ◌+◌, ◌-◌, ◌<◌, length, ap, arith}
 use Rattle.conf_tree.specs.View.{data_of}
 use Rattle.conf_book.specs.Books.{IsPublishable, Publications, documents_of, first_document, newest_document}
 use Rattle.conf_book.proofs.BookLemmas.{each_is, last_is}
