@@ -1,5 +1,5 @@
 //! Readers of what is published.
-ghost use Rattle.std.specs.Prelude.{◌≡◌, ◌+◌, ◌-◌, ◌^◌, ◌≤◌, length, min, IfOk, IfSome, IsTrue};
+ghost use Rattle.std.specs.Prelude.{◌≡◌, ◌+◌, ◌-◌, ◌^◌, ◌≤◌, length, min, IfOk, IfSome, OnErr, IsTrue};
 ghost use mathlib.Core.List.{IsPrefix};
 ghost use Rattle.conf_validate.specs.Current.{numbered};
 ghost use Rattle.conf_shared.specs.Lists.{IsNewest};
@@ -47,12 +47,13 @@ impl<J: Naming> ConfReader<J> {
     /// The newest configuration of the list that it has then seen, which begins with what it had seen before. Where no
     /// reading can be had the list stays, and its newest one is given again.
     ///
-    /// Fails for want of memory alone; it counts as an enter all the same.
+    /// Fails for want of memory alone; it counts as an enter all the same, and the list is as before.
     #[tactic(auto, using(crate::proofs::PrefixLemmas::prefix_length))]
     pub fn enter(&mut self) -> Result<Current, AllocError>
         ensures newest { IfOk result (λ c. IsNewest self.new.0 (numbered c)) }
         ensures no_less { IfOk result (λ c. length self.old.0 ≤ c.number + 1) }
         ensures later { IsPrefix self.old.0 self.new.0 }
+        ensures err { OnErr result (self.new.0 ≡ self.old.0) }
         ensures count { self.new.1 ≡ min (self.old.1 + 1) (2 ^ 64 - 1) }
     {
         self.enters = self.enters.saturating_add(1);
@@ -65,10 +66,14 @@ impl<J: Naming> ConfReader<J> {
                     × IsPrefix seen.now.seen.log e.seen.log)) }
             { look::<J>(inner, seen) },
         );
-        if let Some(edition) = newer? {
-            self.seen = edition;
+        match newer? {
+            Some(edition) => {
+                let current = edition.last().another()?;
+                self.seen = edition;
+                Ok(current)
+            }
+            None => self.seen.last().another(),
         }
-        self.seen.last().another()
     }
 
     /// The number of the newest configuration that it has seen. It takes no memory.

@@ -37,8 +37,17 @@ module _ {T : Type 0} where
 
   -- a run was gained
   pub run_claimed : (first n : ℕ) (c c' : List (ℕ × Option T)) → IsDistinct c → IsDistinct c' → full_slots c' ≡ full_slots c
-      → ((f : ℕ → ℕ) → empty_weight f c' ≡ weigh f (range_with_len first n) + empty_weight f c) → HasEmpty first n c' × SameElsewhere first n c c'
+      → ((f : ℕ → ℕ) → empty_weight f c' ≡ weigh f (range_with_len first n) + empty_weight f c) → HasNone first n c × HasEmpty first n c' × SameElsewhere first n c c'
   run_claimed first n c c' once once' full gained = (
+    λ i lt. none_content c (first + i) (omega (
+      arith,
+      parts_weigh (is_number (first + i)) c,
+      parts_weigh (is_number (first + i)) c',
+      ap (λ l. times (first + i) (numbers l)) full,
+      gained (is_number (first + i)),
+      in_range first n i lt,
+      once' (first + i),
+    )),
     λ i lt. empty_known (first + i) c' once' (omega (arith, gained (is_number (first + i)), in_range first n i lt)),
     λ k out. same_known k c c' once once' full (omega (arith, gained (is_number k), out_of_range first n k out)),
   )

@@ -17,9 +17,10 @@ impl<T> SlotTable<T> {
     ghost use Rattle.chunk_map.specs.Showing.{Shows};
     ghost use Rattle.segment_table.specs.Owning.{BelongsTo, first_of, log_of, slots_of};
 
-    /// Claims a run of as many neighbouring chunks as so many bytes need, with their slots, which are empty. The search takes
-    /// the lowest segment, and in it the lowest chunks, that its looks allow. It is full exactly where the looks at all chunks
-    /// have no such run; chunks gained on the way are given back then, and the seat's slots are what they were.
+    /// Claims a run of as many neighbouring chunks as so many bytes need, with their slots, which are empty and weren't the
+    /// seat's. The search takes the lowest segment, and in it the lowest chunks, that its looks allow. It is full exactly
+    /// where the looks at all chunks have no such run; chunks gained on the way are given back then, and the seat's slots are
+    /// what they were.
     ///
     /// A look at a chunk is a load of its word, or a try to take its bit. A chunk that the call gained counts as found free
     /// from then on, also after it was given back.
@@ -34,7 +35,8 @@ impl<T> SlotTable<T> {
             × AreFree (seen_free (log_of seat.new)) (chunks_for size) run.segment run.chunk
             × IsLowest (may_be_free (log_of seat.new)) (chunks_for size) run.segment run.chunk) }
         ensures slots { IfRun result (λ run.
-            HasEmpty (first_of run) (chunks_for run.size) (slots_of seat.new)
+            HasNone (first_of run) (chunks_for run.size) (slots_of seat.old)
+            × HasEmpty (first_of run) (chunks_for run.size) (slots_of seat.new)
             × SameElsewhere (first_of run) (chunks_for run.size) (slots_of seat.old)
             (slots_of seat.new)) }
         ensures full { IfFull result (λ seen. Shows seen.words (log_of seat.new)

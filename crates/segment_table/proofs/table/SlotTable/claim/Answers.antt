@@ -3,7 +3,7 @@ use Rattle.std.specs.Prelude.{Option}
 use Rattle.atomic_table.specs.Table.{Me}
 use Rattle.carried_slots.specs.Carried.{content}
 use Rattle.carried_slots.specs.EmptySlots.{empty_weight, full_slots}
-use Rattle.carried_slots.specs.RunSlots.{HasEmpty, SameElsewhere}
+use Rattle.carried_slots.specs.RunSlots.{HasEmpty, HasNone, SameElsewhere}
 use Rattle.unit_model.specs.Runs.{chunks_for}
 use Rattle.unit_model.specs.Weights.{weigh}
 use Rattle.chunk_map.specs.Gains.{SameSearch}
@@ -41,7 +41,7 @@ returns-clause-slots g c =
     let full : full_slots new ≡ full_slots old = steps_full c.load_open.new.seat.seat.me c.claim_among.new.seat.seat.me c.claim_among.ensures.told ∙ ap full_slots same in
     run_so c.claim_among.result
     (λ run. (f : ℕ → ℕ) → empty_weight f new ≡ weigh f (run_chunks run) + empty_weight f mid)
-    (λ run. HasEmpty (first_of run) (chunks_for run.size) new × SameElsewhere (first_of run) (chunks_for run.size) old new)
+    (λ run. HasNone (first_of run) (chunks_for run.size) old × HasEmpty (first_of run) (chunks_for run.size) new × SameElsewhere (first_of run) (chunks_for run.size) old new)
     (λ run it. run_claimed (first_of run) (chunks_for run.size) old new c.args.seat.now.sound.distinct c.claim_among.new.seat.sound.distinct full (λ f. it f ∙ ap (λ (l : List (ℕ × Option g.row.T.Denot)). weigh f (run_chunks run) + empty_weight f l) same))
     c.claim_among.ensures.gained
 
