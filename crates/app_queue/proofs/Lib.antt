@@ -8,6 +8,7 @@ pub mod ArmFrames
 pub mod ArmSeats
 pub mod Places
 pub mod QueueViews
+pub mod HeldItems
 pub mod QueueSteps
 pub mod ItemSteps
 pub mod QueueSeats

@@ -6,6 +6,7 @@
 #![tactic(auto)]
 
 mod claim;
+mod closing;
 mod contents;
 mod laws;
 mod map_steps;
@@ -14,6 +15,7 @@ mod single;
 mod table;
 
 pub use chunk_map::Claim;
+pub use closing::ClosedSlots;
 pub use laws::{each_chunk_is_in_one_place, free_chunks_are_empty, what_was_filled_is_read};
 use request_context::Parcel;
 pub use seat::SlotSeat;

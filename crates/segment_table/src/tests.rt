@@ -101,5 +101,8 @@ fn all_segments_are_open(rt: HostRuntime) -> Result<(), AllocError> {
     };
     assert_eq!(rt; (whole.segment, run.segment), (0, 1));
     segments.release(&mut other, run);
+    let closed = segments.close(seat);
+    assert_eq!(rt; closed.word(0), 0);
+    assert_eq!(rt; closed.word(10), u64::MAX);
     Ok(())
 }

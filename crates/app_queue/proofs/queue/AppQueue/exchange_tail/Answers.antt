@@ -1,8 +1,7 @@
-use Rattle.std.proofs.Common.{◌∙◌, ap, sym, subst}
-use Rattle.app_queue.specs.Views.{HoldsBelow}
+use Rattle.std.proofs.Common.{◌∙◌, ap}
 use Rattle.app_queue.specs.declared.view.QueueView.{QueueView}
 use Rattle.app_queue.proofs.QueueSteps.{helps}
-use Rattle.app_queue.proofs.QueueViews.{below_same}
+use Rattle.app_queue.proofs.HeldItems.{still_sound}
 use Rattle.app_queue.proofs.queue.AppQueue.exchange_tail.Goals as goal
 
 pub exchange_word-requires-clause-allowed : goal.exchange_word-requires-clause-allowed
@@ -17,5 +16,5 @@ invariant_of-seat c =
     let own = c.exchange_word.ensures.own in
     let same = ap (λ (v : QueueView). v.held) c.exchange_word.ensures.told.view in
     record {
-      sound = (own.1 ∙ seat.sound.0, subst (λ (id : _). HoldsBelow id.words c.exchange_word.new.seat.me.0) (sym own.0) (below_same seat.seat.table_id.words seat.seat.me.0 c.exchange_word.new.seat.me.0 same seat.sound.1));
+      sound = still_sound seat c.exchange_word.new.seat own same;
     }

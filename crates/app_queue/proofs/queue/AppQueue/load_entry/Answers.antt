@@ -5,9 +5,8 @@ use Rattle.app_queue.specs.declared.view.QueueView.{QueueView}
 use Rattle.app_queue.specs.Layout.{word_at}
 use Rattle.app_queue.specs.Rule.{QueueHolds}
 use Rattle.app_queue.specs.Told.{SeesEntry}
-use Rattle.app_queue.specs.Views.{HoldsBelow}
 use Rattle.app_queue.proofs.QueueSteps.{sees_entry}
-use Rattle.app_queue.proofs.QueueViews.{below_same}
+use Rattle.app_queue.proofs.HeldItems.{still_sound}
 use Rattle.app_queue.proofs.queue.AppQueue.load_entry.Goals as goal
 
 pub load_word-requires-clause-allowed : goal.load_word-requires-clause-allowed
@@ -24,5 +23,5 @@ invariant_of-seat c =
     let own = c.load_word.ensures.own in
     let same = ap (λ (v : QueueView). v.held) c.load_word.ensures.told.view in
     record {
-      sound = (own.1 ∙ seat.sound.0, subst (λ (id : _). HoldsBelow id.words c.load_word.new.seat.me.0) (sym own.0) (below_same seat.seat.table_id.words seat.seat.me.0 c.load_word.new.seat.me.0 same seat.sound.1));
+      sound = still_sound seat c.load_word.new.seat own same;
     }

@@ -1,25 +1,17 @@
-use Rattle.std.proofs.Common.{◌+◌, ◌*◌, ◌<◌, ◌∙◌, ap, sym, subst, arith}
+use Rattle.std.proofs.Common.{◌+◌, ◌*◌, ◌<◌, ◌∙◌, ap}
 use Rattle.app_queue.specs.declared.view.QueueView.{QueueView}
-use Rattle.app_queue.specs.Views.{HoldsBelow}
 use Rattle.app_queue.proofs.ItemSteps.{sets_part}
-use Rattle.app_queue.proofs.QueueViews.{below_same}
+use Rattle.app_queue.proofs.HeldItems.{held_inside, still_sound}
 use Rattle.app_queue.proofs.queue.AppQueue.store_part.Goals as goal
 
 pub store_word-requires-clause-real : goal.store_word-requires-clause-real
-store_word-requires-clause-real c =
-    let table = c.args.self.now.table.shared in
-    let sized = c.args.self.now.sized in
-    let inside : 112 + 5 * c.args.item < table.table_id.words = subst (λ (id : _). 112 + 5 * c.args.item < id.words) c.requires.own (c.args.seat.now.sound.1 c.args.item c.requires.held) in
-    let lt : c.args.item < table.key.0 = omega (arith, inside, sized.0, sized.1) in
-    lt
+store_word-requires-clause-real c = held_inside c.args.self.now c.args.seat.now c.args.item c.requires.own c.requires.held
 
 pub store_word-requires-clause-allowed : goal.store_word-requires-clause-allowed
 store_word-requires-clause-allowed c =
     let table = c.args.self.now.table.shared in
     let seat = c.args.seat.now.seat in
-    let sized = c.args.self.now.sized in
-    let inside : 112 + 5 * c.args.item < table.table_id.words = subst (λ (id : _). 112 + 5 * c.args.item < id.words) c.requires.own (c.args.seat.now.sound.1 c.args.item c.requires.held) in
-    let lt : c.args.item < table.key.0 = omega (arith, inside, sized.0, sized.1) in
+    let lt = held_inside c.args.self.now c.args.seat.now c.args.item c.requires.own c.requires.held in
     λ s holds homes at fits. sets_part table.key seat.id seat.me.0 seat.me.1 s holds at c.args.item c.args.part lt c.requires.held
 
 pub invariant_of-seat : goal.invariant_of-seat
@@ -28,5 +20,5 @@ invariant_of-seat c =
     let own = c.store_word.ensures.own in
     let same = ap (λ (v : QueueView). v.held) c.store_word.ensures.told in
     record {
-      sound = (own.1 ∙ seat.sound.0, subst (λ (id : _). HoldsBelow id.words c.store_word.new.seat.me.0) (sym own.0) (below_same seat.seat.table_id.words seat.seat.me.0 c.store_word.new.seat.me.0 same seat.sound.1));
+      sound = still_sound seat c.store_word.new.seat own same;
     }
