@@ -18,7 +18,7 @@ use Rattle.conn_machine.specs.declared.receipt.Receipt.{Receipt}
 use Rattle.conn_machine.specs.Answers.{Connection, closes, reply_to}
 use Rattle.conn_machine.specs.Asking.{is_app}
 use Rattle.conn_machine.specs.Calls.{Account, opened, replied_with, closed_with, taken_with, own_answer, found_at, front_answer, settled, on_bytes, on_end, on_answer, ended_at, given_up_with, on_gone, wrote, IsSound, Reaches}
-use Rattle.conn_machine.specs.States.{Numbered, State, unit_under, Told, Follows, asks_by, is_idle, IsSettled}
+use Rattle.conn_machine.specs.States.{Numbered, State, unit_under, Told, Follows, asks_by, IsSettled}
 use Rattle.conn_machine.specs.Steps.{fed, at_end, taken_up, replied, closed_by, given_up, shown}
 use Rattle.conn_machine.specs.Turns.{replies, ends, ends_between, receipt_of, turn_of}
 use Rattle.conn_machine.proofs.FrontLaws.{nothing_begun}
@@ -57,14 +57,14 @@ sound_closed c current n a ready closed = record {
 }
 
 sound_waiting : (c : Connection) (current bound : Numbered) (n : ℕ) (a : Account) → IsReady c current n a → a.state.bound ≡ Some bound
-    → ((asks_by c bound.1 (found_at bound a) ≡ true) ⊎ (is_idle (found_at bound a) ≡ true)) → IsSound c a
+    → ((asks_by c bound.1 (found_at bound a) ≡ true) ⊎ (found_at bound a ≡ wait)) → IsSound c a
 sound_waiting c current bound n a ready way waits = record {
   follows = ready.follows;
   settled = record {
     begun = λ goes_on free. absurd (some_none a.state.bound bound free way);
     waits = λ other other_way.
         let same : bound ≡ other = cc (sym way ∙ other_way) in
-        subst (λ (b : Numbered). (asks_by c b.1 (found_at b a) ≡ true) ⊎ (is_idle (found_at b a) ≡ true)) same waits;
+        subst (λ (b : Numbered). (asks_by c b.1 (found_at b a) ≡ true) ⊎ (found_at b a ≡ wait)) same waits;
     over = ready.over;
     quits = ready.quits;
   };
@@ -149,8 +149,8 @@ module _ (laws : UnitLaws) (c : Connection) (current bound : Numbered) (n : ℕ)
       sound_closed c current (suc n) (closed_with bound receipt a)
       (ready_close receipt refl (ap (turn_of c bound.1 receipt) is ∙ cut_is c bound.1 bound.0)) refl
   sound_own rest next finished is =
-      sound_waiting c current bound (suc n) a ready way (inr (ap is_idle is))
-  sound_own rest next wait is = sound_waiting c current bound (suc n) a ready way (inr (ap is_idle is))
+      absurd (laws.unfinished a.state.unused a.state.ended bound.1.max_body (ready.follows.begun bound way) is)
+  sound_own rest next wait is = sound_waiting c current bound (suc n) a ready way (inr is)
 
 -- ---- the head is complete
 

@@ -10,7 +10,7 @@ use Rattle.conn_machine.specs.declared.receipt.Need.{Need}
 use Rattle.conn_machine.specs.declared.receipt.Need.TheVariants.{Read, Ask, Write, Close}
 use Rattle.conn_machine.specs.Answers.{Connection}
 use Rattle.conn_machine.specs.Asking.{asked_of, is_app}
-use Rattle.conn_machine.specs.States.{Numbered, State, unit_under, asks_by, is_idle, IsSettled, need_under, need_of, asked_by, by_bound, is_ask, asking_of}
+use Rattle.conn_machine.specs.States.{Numbered, State, unit_under, asks_by, IsSettled, need_under, need_of, asked_by, by_bound, is_ask, asking_of}
 use Rattle.conn_machine.proofs.FrontLaws.{unbegun_waits}
 
 if_false : (b : Bool) (x y z : Need) → (if b then x else y) ≡ z → x ≢ z → (b ≡ false) × (y ≡ z)
@@ -27,7 +27,7 @@ open_need c s z is close write =
     if_false s.closed Close (need_under c s s.bound) z second.1 close
 
 pub reads_now : (c : Connection) (s : State) → IsSettled c s → need_of c s ≡ Read
-    → ((bound : Numbered) → s.bound ≡ Some bound → is_idle (unit_under bound.1 s).found ≡ true)
+    → ((bound : Numbered) → s.bound ≡ Some bound → (unit_under bound.1 s).found ≡ wait)
     × (s.bound ≡ None → (limit : ℕ) → (next_unit s.unused s.ended limit).found ≡ wait)
 reads_now c s settled is = (
   λ bound way. by_wait bound (ap (need_under c s) (sym way) ∙ need.1) (settled.waits bound way),
@@ -46,7 +46,7 @@ reads_now c s settled is = (
     asks_none false under first = absurd (cc first)
 
     by_wait : (bound : Numbered) → (if asks_by c bound.1 (unit_under bound.1 s).found then Ask else Read) ≡ Read
-        → ((asks_by c bound.1 (unit_under bound.1 s).found ≡ true) ⊎ (is_idle (unit_under bound.1 s).found ≡ true)) → is_idle (unit_under bound.1 s).found ≡ true
+        → ((asks_by c bound.1 (unit_under bound.1 s).found ≡ true) ⊎ ((unit_under bound.1 s).found ≡ wait)) → (unit_under bound.1 s).found ≡ wait
     by_wait bound under (inl asks) = absurd (asks_none (asks_by c bound.1 (unit_under bound.1 s).found) under asks)
     by_wait bound under (inr waits) = waits
 

@@ -2,7 +2,7 @@
 use Rattle.std.proofs.Common.{ℕ, ◌≡◌, ◌≢◌, ◌<◌, ◌≤◌, refl, sym, ap, ◌∙◌, List, [], ◌++◌, length, Bool, true, false, append-nil}
 use Rattle.http_front.specs.Front.{head_begun}
 use Rattle.http_front.specs.Message.{Message}
-use Rattle.http_front.specs.NextUnit.{Found, request, wait, NextUnit, next_unit}
+use Rattle.http_front.specs.NextUnit.{Found, request, finished, wait, NextUnit, next_unit}
 
 -- the laws that are used here
 pub record UnitLaws : Type 0 where
@@ -11,6 +11,7 @@ pub record UnitLaws : Type 0 where
   pub begun : (bytes more : List ℕ) → head_begun bytes ≡ true → head_begun (bytes ++ more) ≡ true
   pub due : (bytes more : List ℕ) (ended : Bool) (limit : ℕ) → head_begun bytes ≡ true
       → (next_unit (bytes ++ more) ended limit).continue_due ≡ (next_unit bytes false limit).continue_due
+  pub unfinished : (bytes : List ℕ) (ended : Bool) (limit : ℕ) → head_begun bytes ≡ true → (next_unit bytes ended limit).found ≢ finished
   pub fits : (bytes : List ℕ) (ended : Bool) (limit : ℕ) (m : Message) (used : ℕ) → (next_unit bytes ended limit).found ≡ request m used
       → (0 < used) × (used ≤ length bytes)
 

@@ -119,20 +119,12 @@ asks_by c conf cut = false
 asks_by c conf finished = false
 asks_by c conf wait = false
 
--- nothing is found to answer yet: more bytes are needed, or the input ended between requests
-abbrev pub is_idle : Found → Bool
-is_idle (request m used) = false
-is_idle (bad status) = false
-is_idle cut = false
-is_idle finished = true
-is_idle wait = true
-
 -- each request whose head is complete is under way and asks an application or needs more bytes; where the connection is
 -- closed or was given up none is
 pub record IsSettled (c : Connection) (s : State) : Type 0 where
   pub begun : s.closed ≡ false → s.bound ≡ None → head_begun s.unused ≡ false
   pub waits : (bound : Numbered) → s.bound ≡ Some bound
-      → (asks_by c bound.1 (unit_under bound.1 s).found ≡ true) ⊎ (is_idle (unit_under bound.1 s).found ≡ true)
+      → (asks_by c bound.1 (unit_under bound.1 s).found ≡ true) ⊎ ((unit_under bound.1 s).found ≡ wait)
   pub over : s.closed ≡ true → s.bound ≡ None
   pub quits : s.given_up ≡ true → s.closed ≡ true
 

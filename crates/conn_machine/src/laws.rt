@@ -24,7 +24,7 @@ ghost use Rattle.conn_machine.specs.Asking.{asked_of, is_app, is_same_asked, tim
 ghost use Rattle.conn_machine.specs.Calls.{Account, IsSound, Reaches, on_answer, on_bytes, on_end, on_gone, opened, wrote};
 ghost use Rattle.conn_machine.specs.Laws.{ArePlain, NeverFall, plain_connection};
 ghost use Rattle.conn_machine.specs.Sessions.{course_of, is_under_way, log_lines_of, session_of};
-ghost use Rattle.conn_machine.specs.States.{Agrees, Fits, Follows, GoesOn, IsSettled, Numbered, State, Told, asking_of, counted, is_ask, is_idle, is_over, need_of, unit_under};
+ghost use Rattle.conn_machine.specs.States.{Agrees, Fits, Follows, GoesOn, IsSettled, Numbered, State, Told, asking_of, counted, is_ask, is_over, need_of, unit_under};
 ghost use Rattle.conn_machine.specs.Steps.{at_end, begin, closed_by, fed, given_up, nothing, replied, shown, taken_up, with_bytes, with_given, with_receipt, with_written};
 ghost use Rattle.conn_machine.specs.Unchanged.{plain_reply_to, unchanged_reply_to};
 ghost use Rattle.conn_machine.specs.Turns.{ends, ends_between, is_why, receipt_of, replies, turn_of};
@@ -91,7 +91,7 @@ pub fn laws_of_ends()
         → (need_of c s ≡ Close) ↔ (is_over (session_of c confs t.receipts t.bytes s.ended) s.ended
         ≡ true) }
     ensures reads { (c : Connection) (s : State) → IsSettled c s → need_of c s ≡ Read
-        → ((bound : Numbered) → s.bound ≡ Some bound → is_idle (unit_under bound.1 s).found ≡ true)
+        → ((bound : Numbered) → s.bound ≡ Some bound → (unit_under bound.1 s).found ≡ wait)
         × (s.bound ≡ None → (limit : ℕ) → (next_unit s.unused s.ended limit).found ≡ wait) }
     ensures asks { (c : Connection) (s : State) → is_some (asking_of c s) ≡ is_ask (need_of c s) }
 {

@@ -9,7 +9,7 @@ use http_front::{Next, Reader, laws_of_units};
 use std::alloc::{AllocError, Global};
 use unit_types::{Addr, Bytes};
 
-/// The most bytes of a request's content.
+/// Bytes of a control request's content. A longer one is refused with 413 (RFC 9110, section 15.5.14).
 const CONTENT_LIMIT: u64 = 1_048_576;
 
 /// What stands at the front of the bytes, and whether `100 Continue` is due before its reply.

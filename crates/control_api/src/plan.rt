@@ -21,7 +21,7 @@ use conf_validate::{Conf, ConfFault, paths_of_faults_are_texts, validate};
 use std::alloc::{AllocError, Global};
 use unit_types::{Bytes, Request};
 
-/// The most changes that are accepted.
+/// Changes that are accepted. A further one is refused with 503 (RFC 9110, section 15.6.4).
 const CHANGE_LIMIT: usize = 1_000;
 
 /// What a request is answered.

@@ -85,6 +85,17 @@ pub finished_idle : (bytes : List ℕ) (ended : Bool) (limit : ℕ) → (next_un
 unfolding next_unit
 finished_idle bytes ended limit is = finished_front limit (blank_len bytes) (rest_of bytes) ended (front_of head_limit (rest_of bytes)) is
 
+begun_front : (limit blank : ℕ) (bytes : List ℕ) (ended : Bool) (front : Front) → is_ready front ≡ true → (front_unit limit blank bytes ended front).found ≢ finished
+begun_front limit blank bytes ended unready ready is = absurd (cc ready)
+begun_front limit blank bytes ended too_long ready is = cc
+begun_front limit blank bytes ended (block n) ready is =
+    block_unfinished (has_too_many_lines (take n bytes)) limit (blank + n) (drop n bytes) ended (head_of (take n bytes)) is
+
+-- behind a complete head the input doesn't end between requests
+pub begun_unfinished : (bytes : List ℕ) (ended : Bool) (limit : ℕ) → head_begun bytes ≡ true → (next_unit bytes ended limit).found ≢ finished
+unfolding next_unit
+begun_unfinished bytes ended limit begun is = begun_front limit (blank_len bytes) (rest_of bytes) ended (front_of head_limit (rest_of bytes)) begun is
+
 -- ---- before the head is complete no limit counts
 
 alike_front : (limit other blank : ℕ) (bytes : List ℕ) (ended : Bool) (front : Front) → is_ready front ≡ false

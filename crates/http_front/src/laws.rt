@@ -12,8 +12,8 @@ ghost use Rattle.http_front.specs.Session.{Connection, plain_session_of};
 
 /// What is found at the front of the bytes stays however the input goes on, unless more bytes were needed to tell; behind
 /// a complete head so does whether `100 Continue` is due, which it isn't before. After the end of the input no more bytes
-/// are needed, and where it ended between requests nothing is due. A request lies in the bytes that were given, and has a
-/// byte at least. The bytes are refused with the status of an error.
+/// are needed. Where it ended between requests nothing is due, and behind a complete head it never ends so. A request lies
+/// in the bytes that were given, and has a byte at least. The bytes are refused with the status of an error.
 pub fn laws_of_units()
     ensures stays { (bytes more : List ℕ) (ended : Bool) (limit : ℕ)
         → ((next_unit bytes false limit).found ≢ wait)
@@ -27,6 +27,8 @@ pub fn laws_of_units()
     ensures over { (bytes : List ℕ) (ended : Bool) (limit : ℕ)
         → (next_unit bytes ended limit).found ≡ finished
         → (next_unit bytes ended limit).continue_due ≡ false }
+    ensures unfinished { (bytes : List ℕ) (ended : Bool) (limit : ℕ) → HeadBegun bytes
+        → (next_unit bytes ended limit).found ≢ finished }
     ensures fits { (bytes : List ℕ) (ended : Bool) (limit : ℕ) (m : Message) (used : ℕ)
         → (next_unit bytes ended limit).found ≡ request m used
         → (0 < used) × (used ≤ length bytes) }

@@ -9,6 +9,7 @@ reader_laws c = record {
   stays = c.laws_of_units.ensures.stays;
   begun = c.laws_of_units.ensures.begun;
   due = c.laws_of_units.ensures.due;
+  unfinished = c.laws_of_units.ensures.unfinished;
   fits = c.laws_of_units.ensures.fits;
 }
 

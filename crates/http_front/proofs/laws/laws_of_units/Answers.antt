@@ -1,6 +1,6 @@
 use Rattle.http_front.proofs.ReaderLemmas.{request_within, error_status}
 use Rattle.http_front.proofs.StayLemmas.{found_stays, ended_tells}
-use Rattle.http_front.proofs.UnitLemmas.{due_stays, complete_stays, due_begun, finished_idle}
+use Rattle.http_front.proofs.UnitLemmas.{due_stays, complete_stays, due_begun, finished_idle, begun_unfinished}
 use Rattle.http_front.proofs.laws.laws_of_units.Goals as goal
 
 pub returns-clause-stays : goal.returns-clause-stays
@@ -20,6 +20,9 @@ returns-clause-tells c bytes limit = ended_tells bytes limit
 
 pub returns-clause-over : goal.returns-clause-over
 returns-clause-over c bytes ended limit is = finished_idle bytes ended limit is
+
+pub returns-clause-unfinished : goal.returns-clause-unfinished
+returns-clause-unfinished c bytes ended limit begun is = begun_unfinished bytes ended limit begun is
 
 pub returns-clause-fits : goal.returns-clause-fits
 returns-clause-fits c bytes ended limit m used is = request_within bytes ended limit m used is
