@@ -8,12 +8,13 @@ use Rattle.std.proofs.lemmas.Nat.Bits.{bit_at-lt, bit_at_clear_same, bit_at_clea
 use mathlib.Core.Option.{none, some}
 use lib.ListN.{get_elem?}
 use Rattle.atomic_table.specs.Table.{State, Me, Act, keeps, takes, step, stepped, Valid, homes_after, carried_after, opening, Splits, Joins}
-use Rattle.atomic_table.proofs.Lists.{set_else}
 use Rattle.carried_slots.specs.Acts.{becomes}
 use Rattle.carried_slots.specs.Carried.{content, numbers, but, front}
+use Rattle.carried_slots.specs.FreeSlots.{FreeSlots, FreeUncarried, SlotGained, SlotGiven}
 use Rattle.carried_slots.specs.SlotLaws.{Becomes}
 use Rattle.carried_slots.proofs.EmptySlots.{empty_is_but}
-use Rattle.carried_slots.proofs.Lookups.{some_content, but_weighs, but_gone, among_itself, among_but, front_weighs, front_among}
+use Rattle.carried_slots.proofs.FreeSlots.{free_first, free_stay, free_become, slot_gained, slot_given}
+use Rattle.carried_slots.proofs.Lookups.{some_content, front_weighs, front_among}
 use Rattle.carried_slots.proofs.Moving.{slots_become}
 use Rattle.unit_model.specs.Sharing.{Owned, Holds}
 use Rattle.unit_model.specs.Weights.{weigh, is_number, times, one_if, below}
@@ -43,18 +44,12 @@ module _ {T : Type 0} (n slots id : ℕ) (v : MapView) (c : List (ℕ × Option 
   in_table : (k : ℕ) → 0 < times k (numbers c) → k < length s.homes
   in_table k carried = omega (arith, wide, sized, seat.within k (omega (arith, carried, seat.weighs (is_number k))))
 
-  -- the slot of a free chunk isn't carried
-  not_carried : (k : ℕ) → k < 640 * n → is_free (map_words s.words) k ≡ true → times k (numbers c) ≡ 0
+  not_carried : FreeUncarried (640 * n) (map_words s.words) c
   not_carried k lt free = omega (arith, seat.weighs (is_number k), holds.owned (is_number k), sum_at (held_by (is_number k)) s.views id v at, at_most_one k, free_one (640 * n) (map_words s.words) k lt, ap one_if free)
-
-  -- the slots become others, of which none is new
-  turns_to : (t : List (ℕ × Option T)) → ((k : ℕ) → times k (numbers t) ≤ times k (numbers c)) → Rattle.carried_slots.specs.Carried.Among c t → Becomes s.homes c t
-  turns_to t fewer all = slots_become s.homes c t seat.distinct (λ k. omega (arith, fewer k, seat.distinct k)) all in_table
 
   -- ---- a load, after which the words are what they were
 
-  loads : (i : ℕ) (u : MapView) (a : Act (Option T)) → ((f : ℕ → ℕ) → held_by f u ≡ held_by f v)
-      → ((k : ℕ) → k < 640 * n → is_free (map_words s.words) k ≡ true → get_elem? (homes_after s.homes c a) k ≡ get_elem? s.homes k)
+  loads : (i : ℕ) (u : MapView) (a : Act (Option T)) → ((f : ℕ → ℕ) → held_by f u ≡ held_by f v) → FreeSlots (640 * n) (map_words s.words) (homes_after s.homes c a)
       → SegHolds n (stepped s i (slice_index s.words i) id c u a)
   loads i u a same frees =
       let words : set s.words i (slice_index s.words i) ≡ s.words = set-get_or s.words i 0 in
@@ -62,9 +57,7 @@ module _ {T : Type 0} (n slots id : ℕ) (v : MapView) (c : List (ℕ × Option 
         wide = ap length words ∙ holds.wide;
         all = ap (λ (ws : List ℕ). slice_index ws 0) words ∙ holds.all;
         owned = subst (λ (ws : List ℕ). Owned held_by (free_weight (map_words ws) (640 * n)) (640 * n) (set s.views id u)) (sym words) (owned_stays held_by (free_weight (map_words s.words) (640 * n)) (640 * n) s.views id v u at same holds.owned);
-        free = λ k lt free.
-            let was : is_free (map_words s.words) k ≡ true = sym (ap (λ (ws : List ℕ). is_free (map_words ws) k) words) ∙ free in
-            frees k lt was ∙ holds.free k lt was;
+        free = subst (λ (ws : List ℕ). FreeSlots (640 * n) (map_words ws) (homes_after s.homes c a)) (sym words) frees;
       }
 
   pub sees_open : After 0 (slice_index s.words 0) (SeesOpen (step slots 0 0 0 none) (v, c) (slice_index s.words 0))
@@ -72,7 +65,7 @@ module _ {T : Type 0} (n slots id : ℕ) (v : MapView) (c : List (ℕ × Option 
     does (SawOpen (slice_index s.words 0)) v,
     keeps,
     tt,
-    loads 0 (does (SawOpen (slice_index s.words 0)) v) keeps (λ f. refl) (λ k lt free. refl),
+    loads 0 (does (SawOpen (slice_index s.words 0)) v) keeps (λ f. refl) holds.free,
     (holds.all ∙ sym sized, refl),
   )
 
@@ -81,18 +74,18 @@ module _ {T : Type 0} (n slots id : ℕ) (v : MapView) (c : List (ℕ × Option 
     does (SawWord (word_number i) (slice_index s.words i)) v,
     keeps,
     tt,
-    loads i (does (SawWord (word_number i) (slice_index s.words i)) v) keeps (λ f. refl) (λ k lt free. refl),
+    loads i (does (SawWord (word_number i) (slice_index s.words i)) v) keeps (λ f. refl) holds.free,
     refl,
   )
 
   pub brings : (chunk : ℕ) → After 0 (slice_index s.words 0) (Brings chunk (step slots 0 0 0 none) (v, c) (slice_index s.words 0))
   brings chunk =
       let same : (k : ℕ) → times k (numbers (front chunk c)) ≡ times k (numbers c) = λ k. front_weighs (is_number k) c chunk in
-      let turned : Becomes s.homes c (front chunk c) = turns_to (front chunk c) (λ k. omega (arith, same k)) (front_among c chunk seat.distinct) in (
+      let turned : Becomes s.homes c (front chunk c) = slots_become s.homes c (front chunk c) seat.distinct (λ k. omega (arith, same k, seat.distinct k)) (front_among c chunk seat.distinct) in_table in (
         v,
         becomes c (front chunk c),
         turned.valid,
-        loads 0 v (becomes c (front chunk c)) (λ f. refl) (λ k lt free. turned.others k (omega (arith, same k, not_carried k lt free)) (not_carried k lt free)),
+        loads 0 v (becomes c (front chunk c)) (λ f. refl) (free_become (640 * n) (map_words s.words) s.homes c (front chunk c) not_carried (λ k. omega (arith, same k)) turned holds.free),
         ap (λ (l : List (ℕ × Option T)). (v, l)) turned.carried,
       )
 
@@ -115,7 +108,7 @@ module _ {T : Type 0} (n slots id : ℕ) (v : MapView) (c : List (ℕ × Option 
     number_told b same = omega (arith, number_back number, same)
 
     kept : (new : ℕ) (u : MapView) (a : Act (Option T)) → ((f : ℕ → ℕ) → free_weight (map_words (set s.words (table_index number) new)) (640 * n) f + weigh f u.held ≡ free_weight (map_words s.words) (640 * n) f + weigh f v.held)
-        → ((k : ℕ) → k < 640 * n → is_free (map_words (set s.words (table_index number) new)) k ≡ true → get_elem? (homes_after s.homes c a) k ≡ some (some None))
+        → FreeSlots (640 * n) (map_words (set s.words (table_index number) new)) (homes_after s.homes c a)
         → SegHolds n (stepped s (table_index number) new id c u a)
     kept new u a moved frees = record {
       wide = length-set s.words (table_index number) new ∙ holds.wide;
@@ -138,11 +131,6 @@ module _ {T : Type 0} (n slots id : ℕ) (v : MapView) (c : List (ℕ × Option 
     is_cleared : is_free cleared chunk ≡ Rattle.std.proofs.Common.false
     is_cleared = held_where_zero cleared number bit below_64 (ap (λ x. bit_at x bit) (word_here s.words number (bit_and word mask) here) ∙ bit_at_clear_same w64 word bit below_64)
 
-    other_is_free : (k : ℕ) → is_free cleared k ≡ true → (k ≢ chunk) × (is_free (map_words s.words) k ≡ true)
-    other_is_free k free =
-        let other : k ≢ chunk = λ is. true≢false (sym free ∙ ap (is_free cleared) is ∙ is_cleared) in
-        (other, sym (others_clear k other) ∙ free)
-
     was_set : bit_at word bit ≡ 1 → After (table_index number) (bit_and word mask) (TakesBit (step slots (table_index number) mask 0 none) (v, c) word)
     was_set one =
         let was_free : is_free (map_words s.words) chunk ≡ true = free_where_one (map_words s.words) number bit below_64 one in
@@ -150,12 +138,12 @@ module _ {T : Type 0} (n slots id : ℕ) (v : MapView) (c : List (ℕ × Option 
           was = was_free;
           here = is_cleared;
           others = λ k within ne. others_clear k ne;
-        } in (
+        } in
+        let gained : SlotGained (640 * n) cleared s.homes c chunk = slot_gained (640 * n) (map_words s.words) cleared s.homes c chunk chunk_below takes_it holds.free in (
           does (Gained chunk) v,
           takes chunk None,
-          holds.free chunk chunk_below was_free,
-          kept (bit_and word mask) (does (Gained chunk) v) (takes chunk None) (λ f. omega (arith, free_taken (640 * n) (map_words s.words) cleared chunk chunk_below takes_it f))
-              (λ k within free. let was = other_is_free k free in set_else s.homes chunk k none was.0 ∙ holds.free k within was.1),
+          gained.valid,
+          kept (bit_and word mask) (does (Gained chunk) v) (takes chunk None) (λ f. omega (arith, free_taken (640 * n) (map_words s.words) cleared chunk chunk_below takes_it f)) gained.free,
           λ b within masks.
               let same : b ≡ bit = mask_of_one bit b below_64 within masks in
               inl (
@@ -175,7 +163,7 @@ module _ {T : Type 0} (n slots id : ℕ) (v : MapView) (c : List (ℕ × Option 
           keeps,
           tt,
           kept (bit_and word mask) (does (Missed chunk) v) keeps (λ f. omega (arith, free_stays (640 * n) (map_words s.words) cleared (λ k within. stays k) f))
-              (λ k within free. holds.free k within (sym (stays k) ∙ free)),
+              (free_stay (640 * n) (map_words s.words) cleared s.homes s.homes (λ k within free. (sym (stays k) ∙ free, refl)) holds.free),
           λ b within masks. let same : b ≡ bit = mask_of_one bit b below_64 within masks in inr (ap (bit_at word) same ∙ none_set, ap (λ (k : ℕ). did (Missed k) (v, c)) (number_told b same)),
         )
 
@@ -203,22 +191,14 @@ module _ {T : Type 0} (n slots id : ℕ) (v : MapView) (c : List (ℕ × Option 
           here = now;
           others = λ k within ne. others_set k ne;
         } in
-        let fewer : (k : ℕ) → times k (numbers (but chunk c)) ≤ times k (numbers c) = λ k. omega (arith, but_weighs (is_number k) c chunk carried) in
-        let turned : Becomes s.homes c (but chunk c) = turns_to (but chunk c) fewer (among_but c c chunk (among_itself c seat.distinct)) in (
+        let back : SlotGiven (640 * n) given s.homes c chunk = slot_given (640 * n) (map_words s.words) given s.homes c chunk frees_it seat.distinct in_table is_empty not_carried holds.free in (
           does (Released chunk) v,
           becomes c (but chunk c),
-          turned.valid,
-          kept (bit_or word one_bit) (does (Released chunk) v) (becomes c (but chunk c)) (λ f. omega (arith, free_freed (640 * n) (map_words s.words) given chunk chunk_below frees_it f, frees_one f chunk v.held mine))
-              (λ k within free. ⊎_elim
-              (λ is. ap (get_elem? (homes_after s.homes c (becomes c (but chunk c)))) is ∙ turned.given chunk None (but_gone c chunk seat.distinct carried) is_empty)
-              (λ ne.
-              let was : is_free (map_words s.words) k ≡ true = sym (others_set k ne) ∙ free in
-              let none_here : times k (numbers c) ≡ 0 = not_carried k within was in
-              turned.others k (omega (arith, fewer k, none_here)) none_here ∙ holds.free k within was)
-              (cases_eq k chunk)),
+          back.turned.valid,
+          kept (bit_or word one_bit) (does (Released chunk) v) (becomes c (but chunk c)) (λ f. omega (arith, free_freed (640 * n) (map_words s.words) given chunk chunk_below frees_it f, frees_one f chunk v.held mine)) back.free,
           λ b within masks.
               let same : b ≡ bit = set_of_one bit b below_64 within masks in
-              ap (λ (l : List (ℕ × Option T)). (does (Released chunk) v, l)) (turned.carried ∙ sym (empty_is_but chunk c is_empty))
+              ap (λ (l : List (ℕ × Option T)). (does (Released chunk) v, l)) (back.turned.carried ∙ sym (empty_is_but chunk c is_empty))
               ∙ ap (λ (k : ℕ). did (Released k) (v, c)) (number_told b same),
         )
 
@@ -242,11 +222,6 @@ joins n id other v w nothing s holds at apart there = record {
 
 -- ---- the table at first
 
-all_empty : {A : Type 0} (n k : ℕ) (a : A) → k < n → get_elem? (map some (replicate n a)) k ≡ some (some a)
-all_empty zero k a lt = absurd (omega (arith, lt))
-all_empty (suc n) zero a lt = refl
-all_empty (suc n) (suc k) a lt = all_empty n k a (omega (arith, lt))
-
 pub opens : {T : Type 0} (n : ℕ) (words : List ℕ) → words ≡ set (replicate (16 * (n + 1)) 18446744073709551615) 0 n → SegHolds {T = T} n (opening words (replicate (640 * n) None) (empty n))
 opens n words are =
     let ones : List ℕ = replicate (16 * (n + 1)) 18446744073709551615 in
@@ -256,7 +231,7 @@ opens n words are =
       wide = ap length are ∙ length-set ones 0 n ∙ length-replicate {A = ℕ} (16 * (n + 1)) 18446744073709551615;
       all = ap (λ (ws : List ℕ). slice_index ws 0) are ∙ get_or-set_same ones 0 n 0 (omega (arith, length-replicate {A = ℕ} (16 * (n + 1)) 18446744073709551615));
       owned = λ f. omega (arith, free_all (640 * n) (map_words words) free f);
-      free = λ k lt is. all_empty (640 * n) k None lt;
+      free = free_first (640 * n) (map_words words);
     }
 
 -- ---- nothing is held where nothing is carried

@@ -1,16 +1,15 @@
 -- The rule of a table with a chunk map all of whose segments are open, and with a slot for each chunk. The words stand as in a
 -- table with a chunk map alone.
-use Rattle.std.specs.Prelude.{ℕ, ◌+◌, ◌*◌, ◌^◌, ◌%◌, ◌≡◌, ◌<◌, ◌⊎◌, true, length, slice_index, Option, None}
+use Rattle.std.specs.Prelude.{ℕ, ◌+◌, ◌*◌, ◌^◌, ◌%◌, ◌≡◌, ◌<◌, ◌⊎◌, length, slice_index, Option}
 use Rattle.std.specs.Int.{bit_at, bit_not, w64}
-use mathlib.Core.Option.{some}
-use lib.ListN.{get_elem?}
 use Rattle.atomic_table.specs.Table.{State, Me, Step}
 use Rattle.carried_slots.specs.Carried.{numbers, front}
+use Rattle.carried_slots.specs.FreeSlots.{FreeSlots}
 use Rattle.unit_model.specs.Sharing.{Owned}
 use Rattle.unit_model.specs.Weights.{times}
 use Rattle.chunk_map.specs.Rule.{map_words, word_number}
 use Rattle.chunk_map.specs.Views.{held_by}
-use Rattle.chunk_map.specs.Words.{free_weight, is_free}
+use Rattle.chunk_map.specs.Words.{free_weight}
 use Rattle.chunk_map.specs.declared.view.MapEvent.TheVariants.{SawOpen, SawWord, Gained, Missed, Released}
 use Rattle.chunk_map.specs.declared.view.MapView.{MapView}
 use Rattle.segment_table.specs.Events.{did}
@@ -22,8 +21,7 @@ pub record SegHolds {T : Type 0} (segments : ℕ) (s : State (Option T) MapView)
   -- each chunk is free, or with exactly one seat
   pub owned : Owned held_by (free_weight (map_words s.words) (640 * segments)) (640 * segments) s.views
   -- the slot of a free chunk is at home and empty
-  pub free : (chunk : ℕ) → chunk < 640 * segments → is_free (map_words s.words) chunk ≡ true
-      → get_elem? s.homes chunk ≡ some (some None)
+  pub free : FreeSlots (640 * segments) (map_words s.words) s.homes
 
 -- ---- what the steps tell
 
