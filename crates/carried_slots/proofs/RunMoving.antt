@@ -1,16 +1,18 @@
 -- The slots of a run, from home and to it.
-use Rattle.std.proofs.Common.{ℕ, zero, suc, ◌≡◌, ◌+◌, ◌<◌, ◌≤◌, ◌⊎◌, List, [], ◌∷◌, ◌++◌, map, length, refl, sym, ap, ◌∙◌, subst, arith}
+use Rattle.std.proofs.Common.{ℕ, zero, suc, ◌≡◌, ◌+◌, ◌<◌, ◌≤◌, ◌⊎◌, inl, inr, ⊎_elim, List, [], ◌∷◌, ◌++◌, map, length, refl, sym, ap, ◌∙◌, subst, arith}
 use Rattle.std.specs.Prelude.{Option, Some, slice_get}
 use Rattle.std.specs.List.{range_with_len}
-use mathlib.Core.Option.{some}
+use Rattle.std.proofs.lemmas.Bool.{cases_lt}
+use Rattle.std.proofs.lemmas.Option.{none-some}
+use mathlib.Core.Option.{some, some-injective}
 use lib.ListN.{get_elem?}
 use Rattle.unit_model.specs.Weights.{weigh, is_number, times}
 use Rattle.carried_slots.specs.Acts.{AtHome}
 use Rattle.carried_slots.specs.Carried.{content, numbers, IsDistinct}
-use Rattle.carried_slots.specs.RunLaws.{AreFullAtHome, HaveValuesAtHome, full_run, RunGathered, RunGiven}
+use Rattle.carried_slots.specs.RunLaws.{AreFullAtHome, RightGatheringLaw, HaveValuesAtHome, full_run, RunGathered, RunGiven, AreApart, ApartLaw, RunStaysLaw}
 use Rattle.carried_slots.specs.RunSlots.{HasNone, HasValues, run_gone, run_of}
 use Rattle.carried_slots.specs.SlotLaws.{Becomes, RunGone, RunTaken}
-use Rattle.carried_slots.proofs.Lookups.{some_content, none_content, content_some}
+use Rattle.carried_slots.proofs.Lookups.{some_content}
 use Rattle.carried_slots.proofs.Moving.{slots_become, slots_taken}
 use Rattle.carried_slots.proofs.RunLists.{in_range, out_of_range, run_is_gone, run_is_taken, run_numbers}
 
@@ -38,6 +40,9 @@ module _ {T : Type 0} where
       let here : first + 0 ≡ first = omega arith in
       let there : (i : ℕ) → first + 1 + i ≡ first + suc i = λ i. omega arith in
       (sym (ap (get_elem? homes) here) ∙ are 0 (omega arith), values_home (first + 1) xs homes (λ i lt. ap (get_elem? homes) (there i) ∙ are (suc i) (omega (arith, lt))))
+
+  home_same : {x y : Option T} → mathlib.Core.Option.some (mathlib.Core.Option.some x) ≡ mathlib.Core.Option.some (mathlib.Core.Option.some y) → x ≡ y
+  home_same {x} {y} is = some-injective x y (some-injective (some x) (some y) is)
 
   -- ---- a full run
 
@@ -72,6 +77,15 @@ module _ {T : Type 0} where
         outside = λ k out. ap (times k) (full_numbers first values ∙ ap (range_with_len first) all.1) ∙ out_of_range first n k out;
       }
 
+  pub right_gathered : (right : ℕ → T → Type 0) → RightGatheringLaw T right
+  right_gathered right first n homes c all =
+      let run : RunGathered first n homes c = run_gathered first n homes c (λ i lt. let at = all i lt in (at.0, at.1)) in (
+        run,
+        λ i lt.
+            let at = all i (omega (arith, lt, run.long)) in
+            (at.0, home_same (sym (run.were i lt) ∙ at.1), at.2),
+      )
+
   -- ---- to home
 
   pub run_given : (first : ℕ) (values : List T) (homes : List (mathlib.Core.Option.Option (Option T))) (c : List (ℕ × Option T)) → IsDistinct c
@@ -90,3 +104,41 @@ module _ {T : Type 0} where
         others = λ k beyond. out.others k beyond;
         weighs = out.weighs;
       }
+
+-- ---- several runs
+
+-- from one number to another that isn't below it
+gap : (a b : ℕ) → a ≤ b → (d : ℕ) × (a + d ≡ b)
+gap zero b le = (b, omega arith)
+gap (suc a) zero le = absurd (omega (arith, le))
+gap (suc a) (suc b) le = let more = gap a b (omega (arith, le)) in (more.0, omega (arith, more.1))
+
+pub runs_apart : (S : Type 0) → ApartLaw S
+runs_apart S first n other m c some_n some_m there none = ⊎_elim (λ lt. inr (behind lt)) (λ le. inl (before le)) (cases_lt other first)
+  where
+    before : first ≤ other → first + n ≤ other
+    before le = ⊎_elim
+        (λ inside.
+        let up = gap first other le in
+        let at = there up.0 (omega (arith, inside, up.1)) in
+        let same : other + 0 ≡ first + up.0 = omega (arith, up.1) in
+        absurd (none-some at.0 (sym (none 0 some_m) ∙ ap (content c) same ∙ at.1)))
+        (λ beyond. beyond)
+        (cases_lt other (first + n))
+
+    behind : other < first → other + m ≤ first
+    behind lt = ⊎_elim
+        (λ inside.
+        let up = gap other first (omega (arith, lt)) in
+        let at = there 0 some_n in
+        let same : other + up.0 ≡ first + 0 = omega (arith, up.1) in
+        absurd (none-some at.0 (sym (none up.0 (omega (arith, inside, up.1))) ∙ ap (content c) same ∙ at.1)))
+        (λ beyond. beyond)
+        (cases_lt first (other + m))
+
+pub run_stays : (T : Type 0) → RunStaysLaw T
+run_stays T first n other m c c' apart same i lt = same (first + i) (out apart)
+  where
+    out : AreApart first n other m → (first + i < other) ⊎ (other + m ≤ first + i)
+    out (inl before) = inl (omega (arith, lt, before))
+    out (inr behind) = inr (omega (arith, behind))

@@ -5,7 +5,7 @@ use mathlib.Core.Option.{some}
 use lib.ListN.{get_elem?}
 use Rattle.atomic_table.specs.Table.{homes_after}
 use Rattle.unit_model.specs.Weights.{weigh, times}
-use Rattle.carried_slots.specs.Carried.{numbers, IsDistinct}
+use Rattle.carried_slots.specs.Carried.{content, numbers, IsDistinct}
 use Rattle.carried_slots.specs.Acts.{becomes, AtHome}
 use Rattle.carried_slots.specs.RunSlots.{HasNone, HasValues, SameElsewhere, run_gone, run_of}
 use Rattle.carried_slots.specs.SlotLaws.{Becomes, Taken}
@@ -39,6 +39,19 @@ pub record RunGathered {T : Type 0} (first n : ℕ) (homes : List (mathlib.Core.
 abbrev pub GatheringLaw : Type 0 → Type 0
 GatheringLaw T = (first n : ℕ) (homes : List (mathlib.Core.Option.Option (Option T))) (c : List (ℕ × Option T)) → AreFullAtHome first n homes → RunGathered first n homes c
 
+-- the n slots from this number on are at home, each with a value that is right for its place in the run
+abbrev pub AreRightAtHome : {T : Type 0} → (ℕ → T → Type 0) → ℕ → ℕ → List (mathlib.Core.Option.Option (Option T)) → Type 0
+AreRightAtHome {T} right first n homes = (i : ℕ) → i < n → (value : T) × (get_elem? homes (first + i) ≡ some (some (Some value))) × right i value
+
+-- each value is right for its place
+abbrev pub AreRight : {T : Type 0} → (ℕ → T → Type 0) → List T → Type 0
+AreRight {T} right values = (i : ℕ) → i < length values → (value : T) × (slice_get values i ≡ Some value) × right i value
+
+-- What is right at each place is gathered, and is right in the list.
+abbrev pub RightGatheringLaw : (T : Type 0) → (ℕ → T → Type 0) → Type 0
+RightGatheringLaw T right = (first n : ℕ) (homes : List (mathlib.Core.Option.Option (Option T))) (c : List (ℕ × Option T)) → AreRightAtHome right first n homes
+    → (run : RunGathered first n homes c) × AreRight right run.values
+
 -- ---- they go home
 
 -- The slots of a run go home with the values that they had, and what is carried is without them.
@@ -52,3 +65,17 @@ pub record RunGiven {T : Type 0} (first : ℕ) (values : List T) (homes : List (
 abbrev pub RunGivenLaw : Type 0 → Type 0
 RunGivenLaw T = (first : ℕ) (values : List T) (homes : List (mathlib.Core.Option.Option (Option T))) (c : List (ℕ × Option T)) → IsDistinct c
     → ((k : ℕ) → 0 < times k (numbers c) → k < length homes) → HasValues first values c → RunGiven first values homes c
+
+-- ---- several runs of one seat
+
+-- two runs have no slot in common
+abbrev pub AreApart : ℕ → ℕ → ℕ → ℕ → Type 0
+AreApart first n other m = (first + n ≤ other) ⊎ (other + m ≤ first)
+
+-- A run that is carried has no slot in common with one of which nothing is carried.
+abbrev pub ApartLaw : Type 0 → Type 0
+ApartLaw S = (first n other m : ℕ) (c : List (ℕ × S)) → 0 < n → 0 < m → ((i : ℕ) → i < n → (y : S) × (content c (first + i) ≡ Some y)) → HasNone other m c → AreApart first n other m
+
+-- Where the slots of another run alone change, those of a run have what they had.
+abbrev pub RunStaysLaw : Type 0 → Type 0
+RunStaysLaw T = (first n other m : ℕ) (c c' : List (ℕ × Option T)) → AreApart first n other m → SameElsewhere other m c c' → (i : ℕ) → i < n → content c' (first + i) ≡ content c (first + i)

@@ -1,6 +1,7 @@
 //! Laws on acts and on carried slots. Each function does nothing: its contract is the law.
+ghost use Rattle.std.specs.Prelude.{ℕ};
 ghost use Rattle.carried_slots.specs.FreeSlots.{FreeBecomeLaw, FreeFirstLaw, FreeStayLaw, FreeTakenLaw, SlotGainedLaw, SlotGivenLaw};
-ghost use Rattle.carried_slots.specs.RunLaws.{GatheringLaw, RunGivenLaw};
+ghost use Rattle.carried_slots.specs.RunLaws.{ApartLaw, GatheringLaw, RightGatheringLaw, RunGivenLaw, RunStaysLaw};
 ghost use Rattle.carried_slots.specs.SlotLaws.{BecomesLaw, BroughtLaw, ContentLaw, EmptyGoneLaw, KnownLaw, RunGoneLaw, RunTakenLaw, SameValuesLaw, TakenLaw, WithoutLaw};
 
 /// What a seat carries becomes any of its slots, in any order: the others go home with their values, and no other slot of the
@@ -60,6 +61,16 @@ pub fn a_run_is_gathered<T>()
     ensures { GatheringLaw T }
 {}
 
+/// Which values are right for which places of a run.
+pub trait Rightly<T> {
+    ghost right: { ℕ → T → Type 0 };
+}
+
+/// What is right at home at each place of a run is right in the list that is gathered.
+pub fn what_is_gathered_is_right<T, J: Rightly<T>>()
+    ensures { RightGatheringLaw T J.right }
+{}
+
 /// The slots of a run go home with their values by one act: so one store of a tag gives all slots of a run.
 pub fn a_run_goes_home<T>()
     ensures { RunGivenLaw T }
@@ -82,4 +93,14 @@ pub fn a_chunk_comes_with_its_slot<T>()
 /// A chunk is given back with its empty slot, and no other slot moves.
 pub fn a_chunk_goes_with_its_slot<T>()
     ensures { SlotGivenLaw T }
+{}
+
+/// A run that a seat carries has no slot in common with one of which it carries nothing.
+pub fn runs_lie_apart<S>()
+    ensures { ApartLaw S }
+{}
+
+/// Where a seat fills, reads, gains or gives back one run, its other runs have what they had.
+pub fn another_run_stays<T>()
+    ensures { RunStaysLaw T }
 {}
