@@ -9,8 +9,10 @@ use Rattle.unit_model.specs.Sharing.{Holds}
 use Rattle.unit_model.specs.Weights.{weigh}
 use Rattle.unit_model.proofs.Sharing.{owned_once}
 use Rattle.unit_model.proofs.Views.{sum_set}
-use Rattle.app_queue.specs.Arms.{Arm, is_arm_at, WasArmed, IsLatest, IsStanding, IsFresh}
-use Rattle.app_queue.specs.FrameLaws.{ArmsStayLaw, ArmsGetLaw, ArmsArmLaw}
+use Rattle.app_queue.specs.declared.side.Side.TheVariants.{Free}
+use Rattle.app_queue.specs.ArmLaws.{ArmsStayLaw, ArmsGetLaw, ArmsArmLaw, PlacedStayLaw, PlacedGetLaw, PlacedArmLaw}
+use Rattle.app_queue.specs.Arms.{Arm, is_arm_at, WasArmed, IsLatest, IsStanding, IsFresh, ArmsOfQueue}
+use Rattle.app_queue.proofs.ForEach.{at_queue}
 
 pub is_there : {V : Type 0} (xs : List V) (k : ℕ) (x : V) → get_elem? xs k ≡ some x → k < length xs
 is_there [] k x at = absurd (some-ne-none x (sym at))
@@ -18,7 +20,7 @@ is_there (y ∷ ys) zero x at = omega arith
 is_there (y ∷ ys) (suc k) x at = let more : k < length ys = is_there ys k x at in omega arith
 
 -- what weighs something in a list
-some_weighs : {X : Type 0} (f : X → ℕ) (xs : List X) → 0 < weigh f xs → (j : ℕ) × (x : X) × (get_elem? xs j ≡ some x) × (0 < f x)
+pub some_weighs : {X : Type 0} (f : X → ℕ) (xs : List X) → 0 < weigh f xs → (j : ℕ) × (x : X) × (get_elem? xs j ≡ some x) × (0 < f x)
 some_weighs f [] pos = absurd (omega (arith, pos))
 some_weighs f (x ∷ xs) pos = elim (cases_lt 0 (f x)) [
   | inl lt ↦ (0, x, refl, lt)
@@ -138,11 +140,14 @@ arms_get V got arms held n head head' tag tag' run run' part part' views k v u a
     }
 
 pub arms_arm : (V : Type 0) (got : V → ℕ → ℕ → Type 0) → ArmsArmLaw V got
-arms_arm V got arms held elsewhere n head tag tag' run part views k v u at a lt_a mine is_got_a run_is part_is tag_is others more fewer owned old = record {
-  below = λ b was. ⊎_elim (λ is. let p : b.place ≡ a.place = ap (λ (c : Arm). c.place) is in omega (arith, p, here.below)) (λ before. old.below b before) (was_one arms views k v u at a more b was);
+arms_arm V got arms held elsewhere n head head' tag tag' run run' part part' views k v u at rises a lt_a mine is_got_a run_is part_is tag_is others words more fewer owned old = record {
+  below = λ b was. ⊎_elim
+      (λ is. let p : b.place ≡ a.place = ap (λ (c : Arm). c.place) is in omega (arith, p, here.below, rises))
+      (λ before. let low : b.place < head = old.below b before in omega (arith, low, rises))
+      (was_one arms views k v u at a more b was);
   once = λ i p. one_more i p;
   standing = λ i lt some_tag. ⊎_elim
-      (λ is. record { arm = a; latest = the_latest; of_item = sym is; has_tag = sym tag_is ∙ ap tag' (sym is); has_run = run_is ∙ ap run (sym is); has_part = part_is ∙ ap part (sym is) })
+      (λ is. record { arm = a; latest = the_latest; of_item = sym is; has_tag = sym tag_is ∙ ap tag' (sym is); has_run = run_is ∙ ap run (sym is) ∙ sym (words i lt).0; has_part = part_is ∙ ap part (sym is) ∙ sym (words i lt).1 })
       (λ ne. let s : IsStanding arms tag run part views i = old.standing i lt (λ none. some_tag (others i lt ne ∙ none)) in
       record {
         arm = s.arm;
@@ -152,8 +157,8 @@ arms_arm V got arms held elsewhere n head tag tag' run part views k v u at a lt_
         };
         of_item = s.of_item;
         has_tag = s.has_tag ∙ sym (others i lt ne);
-        has_run = s.has_run;
-        has_part = s.has_part;
+        has_run = s.has_run ∙ sym (words i lt).0;
+        has_part = s.has_part ∙ sym (words i lt).1;
       })
       (cases_eq i a.item);
   fresh = λ j w there i lt holds p is_got. ⊎_elim
@@ -175,15 +180,12 @@ arms_arm V got arms held elsewhere n head tag tag' run part views k v u at a lt_
       greatest = λ b was is. ⊎_elim (λ it. let p : b.place ≡ a.place = ap (λ (c : Arm). c.place) it in omega (arith, p)) (λ before. let less : b.place < a.place = here.above b before is in omega (arith, less)) (was_one arms views k v u at a more b was);
     }
 
-    still : (i : ℕ) → i < n → i ≢ a.item → (p : ℕ) → IsFresh arms head tag views i p → IsFresh arms head tag' (set views k u) i p
+    still : (i : ℕ) → i < n → i ≢ a.item → (p : ℕ) → IsFresh arms head tag views i p → IsFresh arms head' tag' (set views k u) i p
     still i lt ne p f = record {
-      below = f.below;
+      below = omega (arith, f.below, rises);
       untagged = others i lt ne ∙ f.untagged;
       above = λ b was is. ⊎_elim (λ it. absurd (ne (sym (ap (λ (c : Arm). c.item) (sym it) ∙ is)))) (λ before. f.above b before is) (was_one arms views k v u at a more b was);
     }
-
-    total : ℕ → ℕ → List V → ℕ
-    total i p vs = weigh (λ w. weigh (is_arm_at i p) (arms w)) vs
 
     one_more : (i p : ℕ) → weigh (λ w. weigh (is_arm_at i p) (arms w)) (set views k u) ≤ 1
     one_more i p =
@@ -201,3 +203,28 @@ arms_arm V got arms held elsewhere n head tag tag' run part views k v u at a lt_
               ]
           | inr not_it ↦ omega (arith, sums, longer, not_it, old.once i p)
         ]
+
+-- ---- any number of queues
+
+pub placed_stay : (V : Type 0) (got : ℕ → V → ℕ → ℕ → Type 0) → PlacedStayLaw V got
+placed_stay V got arms held shape w w' views k v u at rise words same before old q lt =
+    arms_stay V (got q) (arms q) (held q) (shape.items q) (w.ring q Free).head (w'.ring q Free).head (w.tag q) (w'.tag q) (w.run q) (w'.run q) (w.part q) (w'.part q) views k v u at
+    (rise q lt) (words q lt) (same q) (before q) (old q lt)
+
+pub placed_get : (V : Type 0) (got : ℕ → V → ℕ → ℕ → Type 0) → PlacedGetLaw V got
+placed_get V got arms held shape w w' views k v u at q one next rise tags runs parts same untagged fewer others old r lt =
+    at_queue (λ p. p < shape.queues → ArmsOfQueue (arms p) (held p) (got p) (shape.items p) (w'.ring p Free).head (w'.tag p) (w'.run p) (w'.part p) (set views k u)) shape.queues q
+    (λ here. arms_get V (got q) (arms q) (held q) (shape.items q) (w.ring q Free).head (w'.ring q Free).head (w.tag q) (w'.tag q) (w.run q) (w'.run q) (w.part q) (w'.part q) views k v u at
+    next (λ i below_n. (tags q here i below_n, runs q here i below_n, parts q here i below_n)) (same q) one untagged fewer (old q here))
+    (λ p there ne again. arms_stay V (got p) (arms p) (held p) (shape.items p) (w.ring p Free).head (w'.ring p Free).head (w.tag p) (w'.tag p) (w.run p) (w'.run p) (w.part p) (w'.part p) views k v u at
+    (rise p there ne) (λ i below_n. inr (tags p there i below_n, runs p there i below_n, parts p there i below_n)) (same p) (others p there ne) (old p there))
+    r lt lt
+
+pub placed_arm : (V : Type 0) (got : ℕ → V → ℕ → ℕ → Type 0) → PlacedArmLaw V got
+placed_arm V got arms held elsewhere shape w w' views k v u at q q_lt a lt_a mine is_got run_is part_is rise tags runs parts more same fewer others owned old r lt =
+    at_queue (λ p. p < shape.queues → ArmsOfQueue (arms p) (held p) (got p) (shape.items p) (w'.ring p Free).head (w'.tag p) (w'.run p) (w'.part p) (set views k u)) shape.queues q
+    (λ here. arms_arm V (got q) (arms q) (held q) (elsewhere q) (shape.items q) (w.ring q Free).head (w'.ring q Free).head (w.tag q) (w'.tag q) (w.run q) (w'.run q) (w.part q) (w'.part q) views k v u at
+    (rise q here) a lt_a mine is_got run_is part_is tags.here.here tags.here.others (λ i below_n. (runs q here i below_n, parts q here i below_n)) more fewer owned (old q here))
+    (λ p there ne again. arms_stay V (got p) (arms p) (held p) (shape.items p) (w.ring p Free).head (w'.ring p Free).head (w.tag p) (w'.tag p) (w.run p) (w'.run p) (w.part p) (w'.part p) views k v u at
+    (rise p there) (λ i below_n. inr (tags.others p there ne i below_n, runs p there i below_n, parts p there i below_n)) (same p there ne) (others p there ne) (old p there))
+    r lt lt

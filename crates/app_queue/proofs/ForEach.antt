@@ -1,9 +1,13 @@
--- What holds of one queue or ring, and of all others, holds of each.
-use Rattle.std.proofs.Common.{ℕ, ◌≡◌, ◌≢◌, ◌<◌, ◌⊎◌, inl, inr, ⊎_elim, refl, sym, subst}
+-- What holds of one queue or ring, and of all others, holds of each; and what two seats have.
+use Rattle.std.proofs.Common.{ℕ, ◌≡◌, ◌≢◌, ◌<◌, ◌⊎◌, inl, inr, ⊎_elim, List, refl, sym, ◌∙◌, subst}
 use Rattle.std.proofs.lemmas.Bool.{cases_eq}
+use mathlib.Core.Option.{some}
+use lib.ListN.{get_elem?}
+use Rattle.atomic_table.proofs.Lists.{set_else}
 use Rattle.app_queue.specs.declared.side.Side.{Side}
 use Rattle.app_queue.specs.declared.side.Side.TheVariants.{Free, Line}
 use Rattle.app_queue.specs.Queues.{IsOther}
+use Rattle.app_queue.specs.SeatLaws.{AreTwo}
 
 pub side_cases : (a b : Side) → (a ≡ b) ⊎ (a ≢ b)
 side_cases Free Free = inl refl
@@ -23,3 +27,7 @@ at_ring P queues q side here others r lt other =
     (side_cases other side))
     (λ ne. others r lt other (inl ne))
     (cases_eq r q)
+
+-- the second of two views, before the first one changed
+pub second_was : {V : Type 0} (views : List V) (k : ℕ) (v both : V) (other : ℕ) (o : V) → AreTwo views k v both other o → get_elem? views other ≡ some o
+second_was views k v both other o two = sym (set_else views k other both two.apart) ∙ two.second

@@ -1,5 +1,5 @@
 -- What steps do to the histories of rings.
-use Rattle.std.proofs.Common.{ℕ, ◌+◌, ◌≡◌, List, [], ◌∷◌, ◌++◌, set, ap, arith}
+use Rattle.std.proofs.Common.{ℕ, ◌+◌, ◌≡◌, List, set, ap, arith}
 use mathlib.Core.Option.{some}
 use lib.ListN.{get_elem?}
 use Rattle.unit_model.specs.Weights.{weigh}
@@ -8,10 +8,9 @@ use Rattle.nncq_ring.specs.Rule.{Emptied}
 use Rattle.nncq_ring.specs.Words.{Words, line_of}
 use Rattle.nncq_ring.proofs.Sharing.{emptied_stays}
 use Rattle.nncq_ring.proofs.Staying.{same_line}
-use Rattle.app_queue.specs.declared.side.Side.{Side}
 use Rattle.app_queue.specs.FrameLaws.{HistoriesStayLaw, HistoryStepLaw}
-use Rattle.app_queue.specs.Parts.{HasMoved, RingHistories}
-use Rattle.app_queue.specs.Queues.{Shape}
+use Rattle.app_queue.specs.SeatLaws.{HistoriesSplitLaw, HistoriesJoinLaw}
+use Rattle.app_queue.specs.Parts.{HasMoved}
 use Rattle.app_queue.proofs.ForEach.{at_ring}
 
 module _ {V : Type 0} (pushes pops : (ℕ → ℕ → ℕ) → V → ℕ) (n : ℕ) (begun : List (ℕ × ℕ)) (w w' : Words) (views : List V) (k : ℕ) (v u : V) (at : get_elem? views k ≡ some v) where
@@ -39,18 +38,14 @@ history_step V pushes pops start begun shape ring ring' views k v u at fine q si
       (λ r lt other apart. emptied_stays (pops r other) (start r other) (ring r other) (ring' r other) views k v u at (stays r lt other apart).head (popped r lt other apart) (old.emptied r lt other));
 }
 
-pub histories_split : {V : Type 0} (pushes pops : ℕ → Side → (ℕ → ℕ → ℕ) → V → ℕ) (start : ℕ → Side → ℕ) (begun : ℕ → Side → List (ℕ × ℕ)) (shape : Shape) (ring : ℕ → Side → Words) (views : List V) (k : ℕ) (v left right : V) → get_elem? views k ≡ some v
-    → ((q : ℕ) (side : Side) (g : ℕ → ℕ → ℕ) → pushes q side g left + pushes q side g right ≡ pushes q side g v) → ((q : ℕ) (side : Side) (g : ℕ → ℕ → ℕ) → pops q side g left + pops q side g right ≡ pops q side g v)
-    → RingHistories pushes pops start begun shape ring views → RingHistories pushes pops start begun shape ring (set views k left ++ right ∷ [])
-histories_split pushes pops start begun shape ring views k v left right at pushed popped old = record {
-  moved = λ q lt side g. omega (arith, old.moved q lt side g, sum_split (pushes q side g) views k v left right at (pushed q side g), sum_split (pops q side g) views k v left right at (popped q side g));
-  emptied = λ q lt side f. omega (arith, old.emptied q lt side f, sum_split (pops q side (λ place item. f place)) views k v left right at (popped q side (λ place item. f place)));
+pub histories_split : (V : Type 0) → HistoriesSplitLaw V
+histories_split V pushes pops start begun shape ring views k v left right at pushed popped old = record {
+  moved = λ q lt side g. omega (arith, old.moved q lt side g, sum_split (pushes q side g) views k v left right at (pushed side q g), sum_split (pops q side g) views k v left right at (popped side q g));
+  emptied = λ q lt side f. omega (arith, old.emptied q lt side f, sum_split (pops q side (λ place item. f place)) views k v left right at (popped side q (λ place item. f place)));
 }
 
-pub histories_join : {V : Type 0} (pushes pops : ℕ → Side → (ℕ → ℕ → ℕ) → V → ℕ) (start : ℕ → Side → ℕ) (begun : ℕ → Side → List (ℕ × ℕ)) (shape : Shape) (ring : ℕ → Side → Words) (views : List V) (k other : ℕ) (v o both spent : V) → get_elem? views k ≡ some v → get_elem? (set views k both) other ≡ some o
-    → ((q : ℕ) (side : Side) (g : ℕ → ℕ → ℕ) → pushes q side g both + pushes q side g spent ≡ pushes q side g v + pushes q side g o) → ((q : ℕ) (side : Side) (g : ℕ → ℕ → ℕ) → pops q side g both + pops q side g spent ≡ pops q side g v + pops q side g o)
-    → RingHistories pushes pops start begun shape ring views → RingHistories pushes pops start begun shape ring (set (set views k both) other spent)
-histories_join pushes pops start begun shape ring views k other v o both spent at there pushed popped old = record {
-  moved = λ q lt side g. omega (arith, old.moved q lt side g, sum_join (pushes q side g) views k other v o both spent at there (pushed q side g), sum_join (pops q side g) views k other v o both spent at there (popped q side g));
-  emptied = λ q lt side f. omega (arith, old.emptied q lt side f, sum_join (pops q side (λ place item. f place)) views k other v o both spent at there (popped q side (λ place item. f place)));
+pub histories_join : (V : Type 0) → HistoriesJoinLaw V
+histories_join V pushes pops start begun shape ring views k other v o both spent two pushed popped old = record {
+  moved = λ q lt side g. omega (arith, old.moved q lt side g, sum_join (pushes q side g) views k other v o both spent two.first two.second (pushed side q g), sum_join (pops q side g) views k other v o both spent two.first two.second (popped side q g));
+  emptied = λ q lt side f. omega (arith, old.emptied q lt side f, sum_join (pops q side (λ place item. f place)) views k other v o both spent two.first two.second (popped side q (λ place item. f place)));
 }

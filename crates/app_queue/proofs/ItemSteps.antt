@@ -8,7 +8,6 @@ use Rattle.atomic_table.specs.Table.{State, keeps, stepped}
 use Rattle.atomic_table.proofs.Lists.{exchanged}
 use Rattle.unit_model.specs.Sharing.{Holds}
 use Rattle.unit_model.specs.Weights.{weigh, is_number}
-use Rattle.unit_model.proofs.Sharing.{owned_here}
 use Rattle.nncq_ring.specs.Views.{push_weight, pop_weight}
 use Rattle.app_queue.specs.declared.layout.Place.{Place}
 use Rattle.app_queue.specs.declared.layout.Place.TheVariants.{InRing, TagOf, RunOf, PartOf}
@@ -18,14 +17,15 @@ use Rattle.app_queue.specs.declared.view.ItemEvent.{ItemEvent}
 use Rattle.app_queue.specs.declared.view.ItemEvent.TheVariants.{RunNoted, PartNoted, TagNoted, Armed, Won, Gone}
 use Rattle.app_queue.specs.declared.view.QueueView.{QueueView}
 use Rattle.app_queue.specs.Layout.{word_at, word_of, ring_of, one_queue, queue_words, IsReal}
-use Rattle.app_queue.specs.Parts.{IsIn, lines_weight, FreeUntagged, TagsCounted, TagsKnown, WordsKnown}
-use Rattle.app_queue.specs.Queues.{RingsStay}
+use Rattle.app_queue.specs.Parts.{lines_weight, FreeUntagged, TagsCounted, TagsKnown, WordsKnown, WordsNoted}
+use Rattle.app_queue.specs.Queues.{RingsStay, WordsStay}
 use Rattle.app_queue.specs.Rule.{QueueHolds, begun_with, starts_at}
 use Rattle.app_queue.specs.Told.{SeesTag, SeesRun, SeesPart, Settles}
-use Rattle.app_queue.specs.Views.{last_tag, last_run, last_part, held_by, held_of, log_at, log_of, pushes_of, pops_of, arm_weight, win_weight, arms_of, wins_of, tag_said, run_said, part_said, after}
+use Rattle.app_queue.specs.Views.{last_tag, last_run, last_part, held_by, held_of, log_at, log_of, pushes_of, pops_of, arm_weight, win_weight, arms_of, wins_of, run_notes_of, part_notes_of, tag_said, run_said, part_said, after}
 use Rattle.app_queue.proofs.HistoryFrames.{histories_stay}
-use Rattle.app_queue.proofs.ItemFrames.{same_weight, items_stay, free_stay}
+use Rattle.app_queue.proofs.ItemFrames.{items_stay, free_stay, free_arm, held_is_out}
 use Rattle.app_queue.proofs.KnownFrames.{tags_known, tags_known_one, tags_known_set, tags_known_won, words_known, words_known_one, words_known_set}
+use Rattle.app_queue.proofs.NotedFrames.{words_noted, words_noted_set, is_pair_same}
 use Rattle.app_queue.proofs.Places.{rings_else, tags_else, runs_else, parts_else, tag_set, run_set, part_set}
 use Rattle.app_queue.proofs.QueueSteps.{After, words_then, tag_zero}
 use Rattle.app_queue.proofs.QueueViews.{told_else, told_here, won_told, gone_told}
@@ -50,6 +50,13 @@ module _ (key : ℕ × ℕ) (id : ℕ) (v : QueueView) (carried : List (ℕ × �
   abbrev elsewhere : ℕ → (ℕ → ℕ) → ℕ
   elsewhere q f = lines_weight key.0 (ring_of key.0 s.words) f
 
+  -- runs that stay are noted still, and parts
+  runs_noted : (run' : ℕ → ℕ → ℕ) (e : ItemEvent) → WordsStay (one_queue key.0) (queue_words key.0 s.words).run run' → WordsNoted run_notes_of (one_queue key.0) run' (set s.views id (after e v))
+  runs_noted run' e stays = words_noted QueueView run_notes_of (one_queue key.0) (queue_words key.0 s.words).run run' s.views id v (after e v) at stays (λ q f. omega arith) holds.noted_runs
+
+  parts_noted : (part' : ℕ → ℕ → ℕ) (e : ItemEvent) → WordsStay (one_queue key.0) (queue_words key.0 s.words).part part' → WordsNoted part_notes_of (one_queue key.0) part' (set s.views id (after e v))
+  parts_noted part' e stays = words_noted QueueView part_notes_of (one_queue key.0) (queue_words key.0 s.words).part part' s.views id v (after e v) at stays (λ q f. omega arith) holds.noted_parts
+
   -- ---- a look changes no word
 
   noted : (p : Place) (e : ItemEvent) → ((f : ℕ → ℕ → ℕ) → arm_weight f e ≡ 0) → ((f : ℕ → ℕ → ℕ) → win_weight f e ≡ 0)
@@ -71,6 +78,8 @@ module _ (key : ℕ × ℕ) (id : ℕ) (v : QueueView) (carried : List (ℕ × �
         tags = tags';
         runs = runs';
         parts = parts';
+        noted_runs = runs_noted w.run e (λ q lt i below_n. refl);
+        noted_parts = parts_noted w.part e (λ q lt i below_n. refl);
       } in
       subst (λ (ws : List ℕ). QueueHolds key (record { words = ws; homes = s.homes; views = set s.views id u })) (sym (set-get_or s.words (word_at key.0 p) 0)) stays
 
@@ -145,8 +154,9 @@ module _ (key : ℕ × ℕ) (id : ℕ) (v : QueueView) (carried : List (ℕ × �
       → TagsKnown held_of tag_said (one_queue key.0) (queue_words key.0 (Then p new)).tag (set s.views id (after e v))
       → WordsKnown held_of run_said (one_queue key.0) (queue_words key.0 (Then p new)).run (set s.views id (after e v))
       → WordsKnown held_of part_said (one_queue key.0) (queue_words key.0 (Then p new)).part (set s.views id (after e v))
+      → WordsNoted run_notes_of (one_queue key.0) (queue_words key.0 (Then p new)).run (set s.views id (after e v)) × WordsNoted part_notes_of (one_queue key.0) (queue_words key.0 (Then p new)).part (set s.views id (after e v))
       → QueueHolds key (stepped s (word_at key.0 p) new id carried (after e v) keeps)
-  kept_item p new e real no_ring free' counted' tags' runs' parts' =
+  kept_item p new e real no_ring free' counted' tags' runs' parts' noted' =
       let u : QueueView = after e v in
       let w = queue_words key.0 s.words in
       let w' = queue_words key.0 (Then p new) in
@@ -162,6 +172,8 @@ module _ (key : ℕ × ℕ) (id : ℕ) (v : QueueView) (carried : List (ℕ × �
         tags = tags';
         runs = runs';
         parts = parts';
+        noted_runs = noted'.0;
+        noted_parts = noted'.1;
       }
 
   -- free items are untagged then, where tags stay or become 0
@@ -172,6 +184,28 @@ module _ (key : ℕ × ℕ) (id : ℕ) (v : QueueView) (carried : List (ℕ × �
       free_stay (one_queue key.0) (queue_words key.0 s.words).ring (queue_words key.0 (Then p new)).ring (queue_words key.0 s.words).tag (queue_words key.0 (Then p new)).tag
       (λ q lt side. (holds.rings.rings q lt side).fine) (rings_else key.0 s.words holds.wide new p real no_ring) (λ q lt i below_n. tags i below_n) holds.free
 
+  -- a run or a part is set
+  sets_word : (p : Place) (new : ℕ) (e : ItemEvent) → IsReal key.0 p → ((side : Side) (o : ℕ) → InRing side o ≢ p) → ((i : ℕ) → TagOf i ≢ p) → ((f : ℕ → ℕ → ℕ) → arm_weight f e ≡ 0) → ((f : ℕ → ℕ → ℕ) → win_weight f e ≡ 0)
+      → ((i y : ℕ) → last_tag i (e ∷ v.items) ≡ Some y → last_tag i v.items ≡ Some y)
+      → WordsKnown held_of run_said (one_queue key.0) (queue_words key.0 (Then p new)).run (set s.views id (after e v))
+      → WordsKnown held_of part_said (one_queue key.0) (queue_words key.0 (Then p new)).part (set s.views id (after e v))
+      → WordsNoted run_notes_of (one_queue key.0) (queue_words key.0 (Then p new)).run (set s.views id (after e v)) × WordsNoted part_notes_of (one_queue key.0) (queue_words key.0 (Then p new)).part (set s.views id (after e v))
+      → At p new (λ u. u ≡ after e v)
+  sets_word p new e real no_ring no_tag armed won less runs' parts' noted' =
+      let u : QueueView = after e v in
+      let tag = (queue_words key.0 s.words).tag in
+      let tag' = (queue_words key.0 (Then p new)).tag in
+      let tags_same = tags_else key.0 s.words holds.wide new p real no_tag in (
+        u,
+        keeps,
+        tt,
+        kept_item p new e real no_ring (free_item p new real no_ring (λ i below_n. inl (tags_same 0 one i below_n)))
+            (tags_counted QueueView arms_of wins_of (one_queue key.0) tag tag' s.views id v u at tags_same (λ q f. omega (arith, armed f)) (λ q f. omega (arith, won f)) holds.counted)
+            (tags_known QueueView tag_said held_of (one_queue key.0) tag tag' s.views id v u at tags_same (λ q i held. (held, less i)) holds.tags)
+            runs' parts' noted',
+        (refl, refl),
+      )
+
   pub sets_run : (item new : ℕ) → item < key.0 → Holds held_by item v → At (RunOf item) new (λ u. u ≡ after (RunNoted item new) v)
   sets_run item new lt mine =
       let p : Place = RunOf item in
@@ -179,19 +213,14 @@ module _ (key : ℕ × ℕ) (id : ℕ) (v : QueueView) (carried : List (ℕ × �
       let u : QueueView = after e v in
       let w = queue_words key.0 s.words in
       let w' = queue_words key.0 (Then p new) in
-      let tags_same = tags_else key.0 s.words holds.wide new p lt (λ i is. cc) in (
-        u,
-        keeps,
-        tt,
-        kept_item p new e lt (λ side o is. cc) (free_item p new lt (λ side o is. cc) (λ i below_n. inl (tags_same 0 one i below_n)))
-            (tags_counted QueueView arms_of wins_of (one_queue key.0) w.tag w'.tag s.views id v u at tags_same (λ q f. omega arith) (λ q f. omega arith) holds.counted)
-            (tags_known QueueView tag_said held_of (one_queue key.0) w.tag w'.tag s.views id v u at tags_same (λ q i held. (held, λ y told. told)) holds.tags)
-            (words_known_set QueueView run_said held_of elsewhere (one_queue key.0) w.run w'.run s.views id v u at 0 item new one lt (run_set key.0 s.words holds.wide new item lt) mine (holds.owned 0 one)
-            (λ r i r_lt apart held. ⊎_elim (λ ne. absurd (ne (omega (arith, r_lt)))) (λ ne. (held, λ y told. told_else item i (Some new) (last_run i v.items) y ne told)) apart)
-            (λ y told. let is : Some new ≡ Some y = told_here item (Some new) (last_run item v.items) y told in cc is) holds.runs)
-            (words_known QueueView part_said held_of (one_queue key.0) w.part w'.part s.views id v u at (parts_else key.0 s.words holds.wide new p lt (λ i is. cc)) (λ q i held. (held, λ y told. told)) holds.parts),
-        (refl, refl),
-      )
+      let sets = run_set key.0 s.words holds.wide new item lt in
+      let others = parts_else key.0 s.words holds.wide new p lt (λ i is. cc) in
+      sets_word p new e lt (λ side o is. cc) (λ i is. cc) (λ f. refl) (λ f. refl) (λ i y told. told)
+      (words_known_set QueueView run_said held_of elsewhere (one_queue key.0) w.run w'.run s.views id v u at 0 item new one lt sets mine (holds.owned 0 one)
+      (λ r i r_lt apart held. ⊎_elim (λ ne. absurd (ne (omega (arith, r_lt)))) (λ ne. (held, λ y told. told_else item i (Some new) (last_run i v.items) y ne told)) apart)
+      (λ y told. let is : Some new ≡ Some y = told_here item (Some new) (last_run item v.items) y told in cc is) holds.runs)
+      (words_known QueueView part_said held_of (one_queue key.0) w.part w'.part s.views id v u at others (λ q i held. (held, λ y told. told)) holds.parts)
+      (words_noted_set QueueView run_notes_of (one_queue key.0) w.run w'.run s.views id v u at 0 item new sets (omega (arith, is_pair_same item new)) (λ r f. omega arith) holds.noted_runs, parts_noted w'.part e others)
 
   pub sets_part : (item new : ℕ) → item < key.0 → Holds held_by item v → At (PartOf item) new (λ u. u ≡ after (PartNoted item new) v)
   sets_part item new lt mine =
@@ -200,25 +229,14 @@ module _ (key : ℕ × ℕ) (id : ℕ) (v : QueueView) (carried : List (ℕ × �
       let u : QueueView = after e v in
       let w = queue_words key.0 s.words in
       let w' = queue_words key.0 (Then p new) in
-      let tags_same = tags_else key.0 s.words holds.wide new p lt (λ i is. cc) in (
-        u,
-        keeps,
-        tt,
-        kept_item p new e lt (λ side o is. cc) (free_item p new lt (λ side o is. cc) (λ i below_n. inl (tags_same 0 one i below_n)))
-            (tags_counted QueueView arms_of wins_of (one_queue key.0) w.tag w'.tag s.views id v u at tags_same (λ q f. omega arith) (λ q f. omega arith) holds.counted)
-            (tags_known QueueView tag_said held_of (one_queue key.0) w.tag w'.tag s.views id v u at tags_same (λ q i held. (held, λ y told. told)) holds.tags)
-            (words_known QueueView run_said held_of (one_queue key.0) w.run w'.run s.views id v u at (runs_else key.0 s.words holds.wide new p lt (λ i is. cc)) (λ q i held. (held, λ y told. told)) holds.runs)
-            (words_known_set QueueView part_said held_of elsewhere (one_queue key.0) w.part w'.part s.views id v u at 0 item new one lt (part_set key.0 s.words holds.wide new item lt) mine (holds.owned 0 one)
-            (λ r i r_lt apart held. ⊎_elim (λ ne. absurd (ne (omega (arith, r_lt)))) (λ ne. (held, λ y told. told_else item i (Some new) (last_part i v.items) y ne told)) apart)
-            (λ y told. let is : Some new ≡ Some y = told_here item (Some new) (last_part item v.items) y told in cc is) holds.parts),
-        (refl, refl),
-      )
-
-  -- an item in a seat's hand isn't in the free ring
-  not_free : (item : ℕ) → item < key.0 → Holds held_by item v → ¬ (IsIn item key.0 (ring_of key.0 s.words Free))
-  not_free item lt mine is_in =
-      let none : elsewhere 0 (is_number item) ≡ 0 = owned_here held_by (elsewhere 0) key.0 s.views id v at item lt mine (holds.owned 0 one) in
-      absurd (omega (arith, none, is_in))
+      let sets = part_set key.0 s.words holds.wide new item lt in
+      let others = runs_else key.0 s.words holds.wide new p lt (λ i is. cc) in
+      sets_word p new e lt (λ side o is. cc) (λ i is. cc) (λ f. refl) (λ f. refl) (λ i y told. told)
+      (words_known QueueView run_said held_of (one_queue key.0) w.run w'.run s.views id v u at others (λ q i held. (held, λ y told. told)) holds.runs)
+      (words_known_set QueueView part_said held_of elsewhere (one_queue key.0) w.part w'.part s.views id v u at 0 item new one lt sets mine (holds.owned 0 one)
+      (λ r i r_lt apart held. ⊎_elim (λ ne. absurd (ne (omega (arith, r_lt)))) (λ ne. (held, λ y told. told_else item i (Some new) (last_part i v.items) y ne told)) apart)
+      (λ y told. let is : Some new ≡ Some y = told_here item (Some new) (last_part item v.items) y told in cc is) holds.parts)
+      (runs_noted w'.run e others, words_noted_set QueueView part_notes_of (one_queue key.0) w.part w'.part s.views id v u at 0 item new sets (omega (arith, is_pair_same item new)) (λ r f. omega arith) holds.noted_parts)
 
   pub arms : (item stream : ℕ) → item < key.0 → Holds held_by item v → last_tag item v.items ≡ Some 0 → 1 ≤ stream → At (TagOf item) stream (λ u. u ≡ after (Armed item stream) v)
   arms item stream lt mine said pos =
@@ -234,18 +252,15 @@ module _ (key : ℕ × ℕ) (id : ℕ) (v : QueueView) (carried : List (ℕ × �
         keeps,
         tt,
         kept_item p stream e lt (λ side o is. cc)
-            (λ q q_lt i below_n is_in.
-            let was_in : IsIn i key.0 (ring_of key.0 s.words Free) = omega (arith, is_in, same_weight key.0 (ring_of key.0 s.words Free) (ring_of key.0 (Then p stream) Free) (holds.rings.rings 0 one Free).fine (rings_same 0 one Free) (is_number i)) in
-            ⊎_elim
-            (λ is. absurd (not_free item lt mine (subst (λ (j : ℕ). IsIn j key.0 (ring_of key.0 s.words Free)) is was_in)))
-            (λ ne. sets.here.others i below_n ne ∙ holds.free 0 one i below_n was_in)
-            (cases_eq i item))
+            (free_arm (one_queue key.0) w.ring w'.ring w.tag w'.tag (λ q q_lt side. (holds.rings.rings q q_lt side).fine) rings_same 0 item stream
+            (held_is_out QueueView held_of (one_queue key.0) w.ring s.views id v at 0 item one lt mine holds.owned Free) sets holds.free)
             (tags_armed QueueView arms_of wins_of (one_queue key.0) w.tag w'.tag s.views id v u at 0 item stream lt sets is_zero (omega (arith, pos)) (λ f. omega arith) (λ r r_lt ne f. absurd (ne (omega (arith, r_lt)))) (λ r f. omega arith) holds.counted)
             (tags_known_set QueueView tag_said held_of elsewhere (one_queue key.0) w.tag w'.tag s.views id v u at 0 item stream one lt sets mine (holds.owned 0 one)
             (λ r i r_lt apart held. ⊎_elim (λ ne. absurd (ne (omega (arith, r_lt)))) (λ ne. (held, λ y told. told_else item i (Some stream) (last_tag i v.items) y ne told)) apart)
             (λ y told. let is : Some stream ≡ Some y = told_here item (Some stream) (last_tag item v.items) y told in cc is) holds.tags)
             (words_known QueueView run_said held_of (one_queue key.0) w.run w'.run s.views id v u at (runs_else key.0 s.words holds.wide stream p lt (λ i is. cc)) (λ q i held. (held, λ y told. told)) holds.runs)
-            (words_known QueueView part_said held_of (one_queue key.0) w.part w'.part s.views id v u at (parts_else key.0 s.words holds.wide stream p lt (λ i is. cc)) (λ q i held. (held, λ y told. told)) holds.parts),
+            (words_known QueueView part_said held_of (one_queue key.0) w.part w'.part s.views id v u at (parts_else key.0 s.words holds.wide stream p lt (λ i is. cc)) (λ q i held. (held, λ y told. told)) holds.parts)
+            (runs_noted w'.run e (runs_else key.0 s.words holds.wide stream p lt (λ i is. cc)), parts_noted w'.part e (parts_else key.0 s.words holds.wide stream p lt (λ i is. cc))),
         (refl, refl),
       )
 
@@ -272,7 +287,8 @@ module _ (key : ℕ × ℕ) (id : ℕ) (v : QueueView) (carried : List (ℕ × �
               (tags_known_won QueueView tag_said held_of (one_queue key.0) w.tag w'.tag s.views id v u at 0 item sets
               (λ r i r_lt apart held. ⊎_elim (λ ne. absurd (ne (omega (arith, r_lt)))) (λ ne. (held, λ y told. told_else item i (Some 0) (last_tag i v.items) y ne told)) apart) holds.tags)
               (words_known QueueView run_said held_of (one_queue key.0) w.run w'.run s.views id v u at (runs_else key.0 s.words holds.wide 0 p lt (λ i same. cc)) (λ q i held. (held, λ y told. told)) holds.runs)
-              (words_known QueueView part_said held_of (one_queue key.0) w.part w'.part s.views id v u at (parts_else key.0 s.words holds.wide 0 p lt (λ i same. cc)) (λ q i held. (held, λ y told. told)) holds.parts),
+              (words_known QueueView part_said held_of (one_queue key.0) w.part w'.part s.views id v u at (parts_else key.0 s.words holds.wide 0 p lt (λ i same. cc)) (λ q i held. (held, λ y told. told)) holds.parts)
+              (runs_noted w'.run e (runs_else key.0 s.words holds.wide 0 p lt (λ i same. cc)), parts_noted w'.part e (parts_else key.0 s.words holds.wide 0 p lt (λ i same. cc))),
           (refl, record { view = ap (λ (a : ItemEvent). after a v) (sym (won_told item stream (word_of key.0 s.words p) is)); known = λ mine x said. holds.tags 0 one id v at item lt mine x said }),
         )
 

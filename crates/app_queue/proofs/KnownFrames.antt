@@ -1,6 +1,6 @@
 -- What steps do to what holders know of their items' words. `good i x` is what it means that a view says x of the item i: that
 -- its word is x, or, of a tag, that it is x or 0.
-use Rattle.std.proofs.Common.{ℕ, ◌≡◌, ◌≢◌, ◌<◌, ◌⊎◌, inl, inr, ⊎_elim, List, [], ◌∷◌, ◌++◌, set, sym, ap, ◌∙◌, subst}
+use Rattle.std.proofs.Common.{ℕ, ◌≡◌, ◌≢◌, ◌<◌, ◌⊎◌, inl, inr, ⊎_elim, List, set, sym, ap, ◌∙◌, subst}
 use Rattle.std.proofs.lemmas.Bool.{cases_eq}
 use mathlib.Core.Option.{some}
 use lib.ListN.{get_elem?}
@@ -10,10 +10,9 @@ use Rattle.unit_model.proofs.Sharing.{owned_once}
 use Rattle.tracking_word.specs.Words.{Sets, Stays}
 use Rattle.tracking_word.proofs.Parts.{known_split, known_join}
 use Rattle.tracking_word.proofs.Exact.{exact_split, exact_join}
-use Rattle.app_queue.specs.Queues.{Shape}
-use Rattle.app_queue.specs.Parts.{TagsKnown, WordsKnown}
-use Rattle.app_queue.specs.FrameLaws.{SaysNoMore, TagsKnownStayLaw, TagsKnownOneLaw, TagsKnownSetLaw, TagsKnownWinLaw, WordsKnownStayLaw, WordsKnownOneLaw, WordsKnownSetLaw}
-use Rattle.app_queue.proofs.ForEach.{at_queue}
+use Rattle.app_queue.specs.FrameLaws.{TagsKnownStayLaw, TagsKnownOneLaw, TagsKnownSetLaw, TagsKnownWinLaw, WordsKnownStayLaw, WordsKnownOneLaw, WordsKnownSetLaw}
+use Rattle.app_queue.specs.SeatLaws.{TagsKnownSplitLaw, TagsKnownJoinLaw, WordsKnownSplitLaw, WordsKnownJoinLaw}
+use Rattle.app_queue.proofs.ForEach.{at_queue, second_was}
 
 -- what a view says of the items that it holds is good
 abbrev IsGood : {V : Type 0} → ((ℕ → ℕ) → V → ℕ) → (V → ℕ → ℕ → Type 0) → ℕ → (ℕ → ℕ → Type 0) → V → Type 0
@@ -133,19 +132,16 @@ tags_known_won V says held shape tag tag' views k v u at q item sets fewer old r
 
 -- ---- seats
 
-module _ {V : Type 0} (held : ℕ → (ℕ → ℕ) → V → ℕ) (says : ℕ → V → ℕ → ℕ → Type 0) (shape : Shape) (word : ℕ → ℕ → ℕ) (views : List V) (k : ℕ) (v : V) (at : get_elem? views k ≡ some v) where
-  pub tags_known_split : (left right : V) → SaysNoMore held says v left → SaysNoMore held says v right → TagsKnown held says shape word views → TagsKnown held says shape word (set views k left ++ right ∷ [])
-  tags_known_split left right l r old q lt = known_split (held q) (says q) (shape.items q) (word q) views k v left right at (l q) (r q) (old q lt)
+pub tags_known_split : (V : Type 0) (says : ℕ → V → ℕ → ℕ → Type 0) → TagsKnownSplitLaw V says
+tags_known_split V says held shape tag views k v left right at l r old q lt = known_split (held q) (says q) (shape.items q) (tag q) views k v left right at (l q) (r q) (old q lt)
 
-  pub words_known_split : (left right : V) → SaysNoMore held says v left → SaysNoMore held says v right → WordsKnown held says shape word views → WordsKnown held says shape word (set views k left ++ right ∷ [])
-  words_known_split left right l r old q lt = exact_split (held q) (says q) (shape.items q) (word q) views k v left right at (l q) (r q) (old q lt)
+pub words_known_split : (V : Type 0) (says : ℕ → V → ℕ → ℕ → Type 0) → WordsKnownSplitLaw V says
+words_known_split V says held shape word views k v left right at l r old q lt = exact_split (held q) (says q) (shape.items q) (word q) views k v left right at (l q) (r q) (old q lt)
 
-  -- what both views say, one of them said of an item that it held
-  abbrev pub FromOne : V → V → Type 0
-  FromOne o both = (q i x : ℕ) → Holds (held q) i both → says q both i x → (Holds (held q) i v × says q v i x) ⊎ (Holds (held q) i o × says q o i x)
+pub tags_known_join : (V : Type 0) (says : ℕ → V → ℕ → ℕ → Type 0) → TagsKnownJoinLaw V says
+tags_known_join V says held shape tag views k other v o both spent two from nothing old q lt =
+    known_join (held q) (says q) (shape.items q) (tag q) views k other v o both spent two.first (second_was views k v both other o two) (from q) (nothing q) (old q lt)
 
-  pub tags_known_join : (other : ℕ) (o both spent : V) → get_elem? views other ≡ some o → FromOne o both → ((q i : ℕ) → ¬ (Holds (held q) i spent)) → TagsKnown held says shape word views → TagsKnown held says shape word (set (set views k both) other spent)
-  tags_known_join other o both spent there from nothing old q lt = known_join (held q) (says q) (shape.items q) (word q) views k other v o both spent at there (from q) (nothing q) (old q lt)
-
-  pub words_known_join : (other : ℕ) (o both spent : V) → get_elem? views other ≡ some o → FromOne o both → ((q i : ℕ) → ¬ (Holds (held q) i spent)) → WordsKnown held says shape word views → WordsKnown held says shape word (set (set views k both) other spent)
-  words_known_join other o both spent there from nothing old q lt = exact_join (held q) (says q) (shape.items q) (word q) views k other v o both spent at there (from q) (nothing q) (old q lt)
+pub words_known_join : (V : Type 0) (says : ℕ → V → ℕ → ℕ → Type 0) → WordsKnownJoinLaw V says
+words_known_join V says held shape word views k other v o both spent two from nothing old q lt =
+    exact_join (held q) (says q) (shape.items q) (word q) views k other v o both spent two.first (second_was views k v both other o two) (from q) (nothing q) (old q lt)

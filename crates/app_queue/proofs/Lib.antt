@@ -4,6 +4,7 @@ pub mod HistoryFrames
 pub mod ItemFrames
 pub mod TagFrames
 pub mod KnownFrames
+pub mod NotedFrames
 pub mod ArmFrames
 pub mod ArmSeats
 pub mod Places

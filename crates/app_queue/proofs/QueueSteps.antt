@@ -30,10 +30,11 @@ use Rattle.app_queue.specs.Parts.{HasMoved, IsIn, FreeUntagged, TagsKnown, Words
 use Rattle.app_queue.specs.Queues.{WordsStay}
 use Rattle.app_queue.specs.Rule.{QueueHolds, begun_with, starts_at}
 use Rattle.app_queue.specs.Told.{SeesTail, SeesHead, SeesEntry, Puts, Takes, Helps}
-use Rattle.app_queue.specs.Views.{last_tag, last_run, last_part, tag_got, held_by, held_of, log_at, log_of, pushes_of, pops_of, arm_weight, win_weight, arms_of, wins_of, tag_said, run_said, part_said, does, does_logs, FitsRing, MayPut, is_armed}
+use Rattle.app_queue.specs.Views.{last_tag, last_run, last_part, tag_got, held_by, held_of, log_at, log_of, pushes_of, pops_of, arm_weight, win_weight, run_weight, part_weight, arms_of, wins_of, run_notes_of, part_notes_of, tag_said, run_said, part_said, does, does_logs, FitsRing, MayPut, is_armed}
 use Rattle.app_queue.proofs.HistoryFrames.{moved_moves, history_step}
 use Rattle.app_queue.proofs.ItemFrames.{same_weight}
 use Rattle.app_queue.proofs.KnownFrames.{tags_known, tags_known_one, words_known, words_known_one}
+use Rattle.app_queue.proofs.NotedFrames.{words_noted}
 use Rattle.app_queue.proofs.Places.{entry_set, tail_set, head_set, ring_stays, other_rings, tags_else, runs_else, parts_else}
 use Rattle.app_queue.proofs.QueueViews.{told_else, told_here, other_log, items_weigh, holds_some, without_weighs, put_tag, put_run, put_part, took_other}
 use Rattle.app_queue.proofs.RingFrames.{rings_step}
@@ -149,6 +150,10 @@ module _ (key : ℕ × ℕ) (id : ℕ) (v : QueueView) (carried : List (ℕ × �
         tags = known.tags_then (queue_words key.0 (words_then p new)).tag tags_stay;
         runs = known.runs_then (queue_words key.0 (words_then p new)).run (runs_else key.0 s.words holds.wide new p real (λ i is. cc));
         parts = known.parts_then (queue_words key.0 (words_then p new)).part (parts_else key.0 s.words holds.wide new p real (λ i is. cc));
+        noted_runs = words_noted QueueView run_notes_of (one_queue key.0) (queue_words key.0 s.words).run (queue_words key.0 (words_then p new)).run s.views id v u at (runs_else key.0 s.words holds.wide new p real (λ i is. cc))
+            (λ q f. let same : weigh (run_weight f) u.items ≡ weigh (run_weight f) v.items = items_weigh (run_weight f) (λ a i x. refl) side e v.items in omega (arith, same)) holds.noted_runs;
+        noted_parts = words_noted QueueView part_notes_of (one_queue key.0) (queue_words key.0 s.words).part (queue_words key.0 (words_then p new)).part s.views id v u at (parts_else key.0 s.words holds.wide new p real (λ i is. cc))
+            (λ q f. let same : weigh (part_weight f) u.items ≡ weigh (part_weight f) v.items = items_weigh (part_weight f) (λ a i x. refl) side e v.items in omega (arith, same)) holds.noted_parts;
       }
 
   -- the same is held, and the same said of it

@@ -1,17 +1,18 @@
 -- What steps do to the parts, as statements over views of any type V. A step changes the view of one seat, the k-th, from v to u:
 -- what of it has changed is a premise.
-use Rattle.std.specs.Prelude.{ℕ, ◌+◌, ◌^◌, ◌≡◌, ◌≢◌, ◌≤◌, ◌<◌, ◌⊎◌, List, ◌∷◌, set}
+use Rattle.std.specs.Prelude.{ℕ, ◌+◌, ◌^◌, ◌≡◌, ◌≢◌, ◌≤◌, ◌<◌, ◌⊎◌, ◌++◌, List, [], ◌∷◌, set}
 use mathlib.Core.Option.{some}
 use lib.ListN.{get_elem?}
 use Rattle.unit_model.specs.Sharing.{Owned, Holds}
 use Rattle.nncq_ring.specs.declared.view.RingEvent.{RingEvent}
 use Rattle.nncq_ring.specs.Notes.{RingPart}
 use Rattle.nncq_ring.specs.Rule.{Emptied}
-use Rattle.nncq_ring.specs.Words.{Words, IsWellFormed, logical_tail}
+use Rattle.nncq_ring.specs.Words.{Words, IsWellFormed, logical_tail, line_of}
+use Rattle.tracking_word.specs.Words.{is_pair}
 use Rattle.app_queue.specs.declared.side.Side.{Side}
+use Rattle.app_queue.specs.declared.side.Side.TheVariants.{Free}
 use Rattle.app_queue.specs.Queues.{Shape, RingsStay, IsOther, OtherRingsStay, WordsStay, SetsWord}
-use Rattle.app_queue.specs.Parts.{RingParts, HasMoved, RingHistories, lines_weight, ItemsOwned, FreeUntagged, TagsCounted, TagsKnown, WordsKnown}
-use Rattle.app_queue.specs.Arms.{Arm, ArmsOfQueue}
+use Rattle.app_queue.specs.Parts.{RingParts, HasMoved, RingHistories, lines_weight, ItemsOwned, IsIn, FreeUntagged, TagsCounted, TagsKnown, WordsKnown, WordsNoted}
 
 -- ---- rings
 
@@ -64,10 +65,42 @@ ItemsMoveLaw V = (held : ℕ → (ℕ → ℕ) → V → ℕ) (shape : Shape) (r
 
 -- ---- free items
 
+-- each tag stays, or is taken to 0
+abbrev pub TagsStayOrFall : Shape → (ℕ → ℕ → ℕ) → (ℕ → ℕ → ℕ) → Type 0
+TagsStayOrFall shape tag tag' = (q : ℕ) → q < shape.queues → (item : ℕ) → item < shape.items q → (tag' q item ≡ tag q item) ⊎ (tag' q item ≡ 0)
+
 -- the frame, where tags may be taken to 0
 abbrev pub FreeStayLaw : Type 0
 FreeStayLaw = (shape : Shape) (ring ring' : ℕ → Side → Words) (tag tag' : ℕ → ℕ → ℕ) → AreWellFormed shape ring → RingsStay shape ring ring'
-    → ((q : ℕ) → q < shape.queues → (item : ℕ) → item < shape.items q → (tag' q item ≡ tag q item) ⊎ (tag' q item ≡ 0)) → FreeUntagged shape ring tag → FreeUntagged shape ring' tag'
+    → TagsStayOrFall shape tag tag' → FreeUntagged shape ring tag → FreeUntagged shape ring' tag'
+
+-- A step that leaves what is in the free rings: one at a line, or one that moves a tail.
+abbrev pub FreeLinesStayLaw : Type 0
+FreeLinesStayLaw = (shape : Shape) (ring ring' : ℕ → Side → Words) (tag tag' : ℕ → ℕ → ℕ)
+    → ((q : ℕ) → q < shape.queues → line_of (shape.items q) (ring' q Free) ≡ line_of (shape.items q) (ring q Free))
+    → TagsStayOrFall shape tag tag' → FreeUntagged shape ring tag → FreeUntagged shape ring' tag'
+
+-- An item whose tag is 0 is put in a free ring.
+abbrev pub FreePutLaw : Type 0
+FreePutLaw = (shape : Shape) (ring ring' : ℕ → Side → Words) (tag tag' : ℕ → ℕ → ℕ) → AreWellFormed shape ring → (q place item : ℕ) → OtherRingsStay shape q Free ring ring'
+    → line_of (shape.items q) (ring' q Free) ≡ line_of (shape.items q) (ring q Free) ++ (place, item) ∷ [] → tag q item ≡ 0
+    → TagsStayOrFall shape tag tag' → FreeUntagged shape ring tag → FreeUntagged shape ring' tag'
+
+-- An item is taken from a free ring: its tag is 0.
+abbrev pub FreeTakeLaw : Type 0
+FreeTakeLaw = (shape : Shape) (ring ring' : ℕ → Side → Words) (tag tag' : ℕ → ℕ → ℕ) → AreWellFormed shape ring → (q place item : ℕ) → q < shape.queues → item < shape.items q
+    → OtherRingsStay shape q Free ring ring' → line_of (shape.items q) (ring q Free) ≡ (place, item) ∷ line_of (shape.items q) (ring' q Free)
+    → TagsStayOrFall shape tag tag' → FreeUntagged shape ring tag → FreeUntagged shape ring' tag' × (tag q item ≡ 0)
+
+-- The tag of an item that isn't in its free ring is set.
+abbrev pub FreeArmLaw : Type 0
+FreeArmLaw = (shape : Shape) (ring ring' : ℕ → Side → Words) (tag tag' : ℕ → ℕ → ℕ) → AreWellFormed shape ring → RingsStay shape ring ring'
+    → (q item x : ℕ) → ¬ (IsIn item (shape.items q) (ring q Free)) → SetsWord shape tag tag' q item x → FreeUntagged shape ring tag → FreeUntagged shape ring' tag'
+
+-- An item that a seat holds is in no ring of its queue.
+abbrev pub HeldIsOutLaw : Type 0 → Type 0
+HeldIsOutLaw V = (held : ℕ → (ℕ → ℕ) → V → ℕ) (shape : Shape) (ring : ℕ → Side → Words) (views : List V) (k : ℕ) (v : V) → get_elem? views k ≡ some v
+    → (q item : ℕ) → q < shape.queues → item < shape.items q → Holds (held q) item v → ItemsOwned held shape ring views → (side : Side) → ¬ (IsIn item (shape.items q) (ring q side))
 
 -- ---- tags
 
@@ -138,31 +171,15 @@ TagsKnownWinLaw V says = (held : ℕ → (ℕ → ℕ) → V → ℕ) (shape : S
     → (q item : ℕ) → SetsWord shape tag tag' q item 0 → SaysOfOne held says shape q item v u
     → TagsKnown held says shape tag views → TagsKnown held says shape tag' (set views k u)
 
--- ---- arms, of one queue
+-- ---- noted runs and parts
 
--- what a step that arms nothing may do to an item's words: it leaves them, or the tag is 0 then
-abbrev pub ArmedWordsStay : ℕ → (tag tag' run run' part part' : ℕ → ℕ) → Type 0
-ArmedWordsStay n tag tag' run run' part part' = (item : ℕ) → item < n → (tag' item ≡ 0) ⊎ ((tag' item ≡ tag item) × (run' item ≡ run item) × (part' item ≡ part item))
+-- the frame
+abbrev pub NotedStayLaw : Type 0 → Type 0
+NotedStayLaw V = (notes : ℕ → (ℕ → ℕ → ℕ) → V → ℕ) (shape : Shape) (word word' : ℕ → ℕ → ℕ) (views : List V) (k : ℕ) (v u : V) → get_elem? views k ≡ some v
+    → WordsStay shape word word' → ((q : ℕ) (f : ℕ → ℕ → ℕ) → notes q f v ≤ notes q f u) → WordsNoted notes shape word views → WordsNoted notes shape word' (set views k u)
 
--- The frame, also of a settle, of a run or a part that is set while the tag is 0, and of an item that goes.
-abbrev pub ArmsStayLaw : (V : Type 0) → (V → ℕ → ℕ → Type 0) → Type 0
-ArmsStayLaw V got = (arms : V → List Arm) (held : (ℕ → ℕ) → V → ℕ) (n head head' : ℕ) (tag tag' run run' part part' : ℕ → ℕ) (views : List V) (k : ℕ) (v u : V) → get_elem? views k ≡ some v
-    → head ≤ head' → ArmedWordsStay n tag tag' run run' part part' → arms u ≡ arms v
-    → ((item : ℕ) → Holds held item u → (place : ℕ) → got u item place → Holds held item v × got v item place)
-    → ArmsOfQueue arms held got n head tag run part views → ArmsOfQueue arms held got n head' tag' run' part' (set views k u)
-
--- an item with tag 0 is got from the free ring, at its head
-abbrev pub ArmsGetLaw : (V : Type 0) → (V → ℕ → ℕ → Type 0) → Type 0
-ArmsGetLaw V got = (arms : V → List Arm) (held : (ℕ → ℕ) → V → ℕ) (n head head' : ℕ) (tag tag' run run' part part' : ℕ → ℕ) (views : List V) (k : ℕ) (v u : V) → get_elem? views k ≡ some v
-    → head' ≡ head + 1 → ((item : ℕ) → item < n → (tag' item ≡ tag item) × (run' item ≡ run item) × (part' item ≡ part item)) → arms u ≡ arms v
-    → (one : ℕ) → tag one ≡ 0
-    → ((item : ℕ) → Holds held item u → (place : ℕ) → got u item place → ((item ≡ one) × (place ≡ head)) ⊎ (Holds held item v × got v item place))
-    → ArmsOfQueue arms held got n head tag run part views → ArmsOfQueue arms held got n head' tag' run' part' (set views k u)
-
--- the holder of an item that was got and not armed since arms it
-abbrev pub ArmsArmLaw : (V : Type 0) → (V → ℕ → ℕ → Type 0) → Type 0
-ArmsArmLaw V got = (arms : V → List Arm) (held : (ℕ → ℕ) → V → ℕ) (elsewhere : (ℕ → ℕ) → ℕ) (n head : ℕ) (tag tag' run part : ℕ → ℕ) (views : List V) (k : ℕ) (v u : V) → get_elem? views k ≡ some v
-    → (a : Arm) → a.item < n → Holds held a.item v → got v a.item a.place → a.run ≡ run a.item → a.part ≡ part a.item
-    → tag' a.item ≡ a.stream → ((item : ℕ) → item < n → item ≢ a.item → tag' item ≡ tag item) → arms u ≡ a ∷ arms v
-    → ((item : ℕ) → Holds held item u → (place : ℕ) → got u item place → (item ≢ a.item) × Holds held item v × got v item place)
-    → Owned held elsewhere n views → ArmsOfQueue arms held got n head tag run part views → ArmsOfQueue arms held got n head tag' run part (set views k u)
+-- a word is set, and noted
+abbrev pub NotedSetLaw : Type 0 → Type 0
+NotedSetLaw V = (notes : ℕ → (ℕ → ℕ → ℕ) → V → ℕ) (shape : Shape) (word word' : ℕ → ℕ → ℕ) (views : List V) (k : ℕ) (v u : V) → get_elem? views k ≡ some v
+    → (q item x : ℕ) → SetsWord shape word word' q item x → 0 < notes q (is_pair item x) u → ((r : ℕ) (f : ℕ → ℕ → ℕ) → notes r f v ≤ notes r f u)
+    → WordsNoted notes shape word views → WordsNoted notes shape word' (set views k u)

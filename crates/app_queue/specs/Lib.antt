@@ -2,6 +2,8 @@ pub mod Queues
 pub mod Parts
 pub mod Arms
 pub mod FrameLaws
+pub mod ArmLaws
+pub mod SeatLaws
 pub mod Layout
 pub mod Opening
 pub mod Views

@@ -1,6 +1,6 @@
 -- The parts of a rule of queues, over views of any type. What a view says is told by functions on it, each of which is given the
 -- queue, so that any table's rule can be made of the same parts.
-use Rattle.std.specs.Prelude.{ℕ, ◌+◌, ◌^◌, ◌≡◌, ◌≤◌, ◌<◌, List}
+use Rattle.std.specs.Prelude.{ℕ, ◌+◌, ◌^◌, ◌≡◌, ◌≢◌, ◌≤◌, ◌<◌, List}
 use Rattle.unit_model.specs.Sharing.{Owned}
 use Rattle.unit_model.specs.Weights.{weigh, is_number}
 use Rattle.nncq_ring.specs.declared.view.RingEvent.{RingEvent}
@@ -8,6 +8,7 @@ use Rattle.nncq_ring.specs.Notes.{RingPart}
 use Rattle.nncq_ring.specs.Rule.{line_weight, Emptied}
 use Rattle.nncq_ring.specs.Words.{Words, logical_tail, line_of}
 use Rattle.tracking_word.specs.Parts.{Counted, Known, KnownExactly}
+use Rattle.tracking_word.specs.Words.{is_pair}
 use Rattle.app_queue.specs.declared.side.Side.{Side}
 use Rattle.app_queue.specs.declared.side.Side.TheVariants.{Free, Line}
 use Rattle.app_queue.specs.Queues.{Shape}
@@ -54,3 +55,8 @@ TagsKnown held says shape tag views = (q : ℕ) → q < shape.queues → Known (
 -- Known runs and parts: the word of an item in a seat's hand is what its view says.
 abbrev pub WordsKnown : {V : Type 0} → (held : ℕ → (ℕ → ℕ) → V → ℕ) → (says : ℕ → V → ℕ → ℕ → Type 0) → Shape → (ℕ → ℕ → ℕ) → List V → Type 0
 WordsKnown held says shape word views = (q : ℕ) → q < shape.queues → KnownExactly (held q) (says q) (shape.items q) (word q) views
+
+-- Noted runs and parts: each was 0 at first, and is 0 or what some view noted of it. `notes q f v` is what the notes of v weigh where
+-- an item with its word weighs f.
+abbrev pub WordsNoted : {V : Type 0} → (notes : ℕ → (ℕ → ℕ → ℕ) → V → ℕ) → Shape → (ℕ → ℕ → ℕ) → List V → Type 0
+WordsNoted notes shape word views = (q : ℕ) → q < shape.queues → (item : ℕ) → item < shape.items q → word q item ≢ 0 → 0 < weigh (notes q (is_pair item (word q item))) views

@@ -6,8 +6,8 @@ use Rattle.app_queue.specs.declared.side.Side.{Side}
 use Rattle.app_queue.specs.declared.side.Side.TheVariants.{Free, Line}
 use Rattle.app_queue.specs.declared.view.QueueView.{QueueView}
 use Rattle.app_queue.specs.Layout.{word_count, one_queue, queue_words}
-use Rattle.app_queue.specs.Parts.{RingParts, RingHistories, ItemsOwned, FreeUntagged, TagsCounted, TagsKnown, WordsKnown}
-use Rattle.app_queue.specs.Views.{held_of, log_of, pushes_of, pops_of, arms_of, wins_of, tag_said, run_said, part_said}
+use Rattle.app_queue.specs.Parts.{RingParts, RingHistories, ItemsOwned, FreeUntagged, TagsCounted, TagsKnown, WordsKnown, WordsNoted}
+use Rattle.app_queue.specs.Views.{held_of, log_of, pushes_of, pops_of, arms_of, wins_of, run_notes_of, part_notes_of, tag_said, run_said, part_said}
 
 -- what stood in the rings at first, with n items from the start on
 abbrev pub begun_with : ℕ → ℕ → ℕ → Side → List (ℕ × ℕ)
@@ -28,3 +28,5 @@ pub record QueueHolds {S : Type 0} (key : ℕ × ℕ) (s : State S QueueView) : 
   pub tags : TagsKnown held_of tag_said (one_queue key.0) (queue_words key.0 s.words).tag s.views
   pub runs : WordsKnown held_of run_said (one_queue key.0) (queue_words key.0 s.words).run s.views
   pub parts : WordsKnown held_of part_said (one_queue key.0) (queue_words key.0 s.words).part s.views
+  pub noted_runs : WordsNoted run_notes_of (one_queue key.0) (queue_words key.0 s.words).run s.views
+  pub noted_parts : WordsNoted part_notes_of (one_queue key.0) (queue_words key.0 s.words).part s.views

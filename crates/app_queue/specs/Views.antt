@@ -81,6 +81,24 @@ win_weight f (Armed i stream) = 0
 win_weight f (Won i stream) = f i stream
 win_weight f (Gone i stream found) = 0
 
+abbrev pub run_weight : (ℕ → ℕ → ℕ) → ItemEvent → ℕ
+run_weight f (Taken side i place) = 0
+run_weight f (RunNoted i x) = f i x
+run_weight f (PartNoted i x) = 0
+run_weight f (TagNoted i x) = 0
+run_weight f (Armed i stream) = 0
+run_weight f (Won i stream) = 0
+run_weight f (Gone i stream found) = 0
+
+abbrev pub part_weight : (ℕ → ℕ → ℕ) → ItemEvent → ℕ
+part_weight f (Taken side i place) = 0
+part_weight f (RunNoted i x) = 0
+part_weight f (PartNoted i x) = f i x
+part_weight f (TagNoted i x) = 0
+part_weight f (Armed i stream) = 0
+part_weight f (Won i stream) = 0
+part_weight f (Gone i stream found) = 0
+
 -- ---- what a view says, for the parts of the rule: there is one queue
 
 abbrev pub held_by : (ℕ → ℕ) → QueueView → ℕ
@@ -108,6 +126,13 @@ arms_of q f v = weigh (arm_weight f) v.items + weigh (arm_weight f) v.joined
 
 abbrev pub wins_of : ℕ → (ℕ → ℕ → ℕ) → QueueView → ℕ
 wins_of q f v = weigh (win_weight f) v.items + weigh (win_weight f) v.joined
+
+-- what the notes of runs weigh, and those of parts
+abbrev pub run_notes_of : ℕ → (ℕ → ℕ → ℕ) → QueueView → ℕ
+run_notes_of q f v = weigh (run_weight f) v.items + weigh (run_weight f) v.joined
+
+abbrev pub part_notes_of : ℕ → (ℕ → ℕ → ℕ) → QueueView → ℕ
+part_notes_of q f v = weigh (part_weight f) v.items + weigh (part_weight f) v.joined
 
 abbrev pub tag_said : ℕ → QueueView → ℕ → ℕ → Type 0
 tag_said q v item x = last_tag item v.items ≡ Some x

@@ -18,6 +18,7 @@ pub struct AppQueue {
 }
 
 impl AppQueue {
+    ghost use Rattle.app_queue.specs.Ends.{StartsAtZero};
     ghost use Rattle.app_queue.specs.Seats.{BelongsTo, items_of, knows, start_of};
     ghost use Rattle.app_queue.specs.Views.{empty, together};
 
@@ -28,8 +29,9 @@ impl AppQueue {
     pub fn open(alloc: Global, items: u32, start: u64) -> Result<(AppQueue, QueueSeat), AllocError>
         requires { (1 ≤ items) × (items ≤ 16384) × (items ≤ start)
             × (start ≤ 4611686018427371519) }
-        ensures { IfOk result (λ r. (items_of r.0 ≡ items) × (start_of r.0 ≡ start)
+        ensures opened { IfOk result (λ r. (items_of r.0 ≡ items) × (start_of r.0 ≡ start)
             × BelongsTo r.1 r.0 × (knows r.1 ≡ empty)) }
+        ensures zero { IfOk result (λ r. StartsAtZero r.0 r.1) }
     {
         let words = first_words(alloc, items, start)?;
         let (table, seat) = Table::of_words(alloc, words.as_slice(), &(items, start))?;

@@ -72,6 +72,21 @@ fn is_settled(queue: &AppQueue, seat: &mut QueueSeat, item: u32) -> bool
     queue.look(seat, item).tag == 0
 }
 
+// No word of the item was set yet.
+fn is_unwritten(queue: &AppQueue, seat: &mut QueueSeat, item: u32) -> bool
+    requires own { BelongsTo seat.old queue.now }
+    requires held { Holds held_by item (knows seat.old) }
+    ensures own { BelongsTo seat.new queue.now }
+    ensures held { Holds held_by item (knows seat.new) }
+    ensures zero { IsTrue result → last_tag item (knows seat.new).items ≡ Some 0 }
+{
+    let looked = queue.look(seat, item);
+    if looked.run != 0 || looked.part != 0 {
+        return false;
+    }
+    looked.tag == 0
+}
+
 #[test]
 fn an_item_goes_round(rt: HostRuntime) -> Result<(), AllocError> {
     let (queue, mut first) = AppQueue::open(rt.alloc(), 1, 1)?;
@@ -84,6 +99,7 @@ fn an_item_goes_round(rt: HostRuntime) -> Result<(), AllocError> {
         queue.take_item_turn(&mut first),
         PopTurn::Empty { place: 2, entry: 1 }
     );
+    assert!(rt; is_unwritten(&queue, &mut seat, item));
     arm(&queue, &mut seat, item);
     assert_eq!(rt; queue.push_item_turn(&mut seat, item), PushTurn::Done(1));
     assert_eq!(rt; queue.settle_item(&mut first, 0, 1), Settle::Won);

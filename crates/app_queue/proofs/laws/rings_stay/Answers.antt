@@ -1,6 +1,5 @@
-use Rattle.std.proofs.Common.{ℕ}
 use Rattle.app_queue.proofs.RingFrames.{rings_stay}
 use Rattle.app_queue.proofs.laws.rings_stay.Goals as goal
 
 pub returns : goal.returns
-returns c = rings_stay ℕ
+returns g c = rings_stay g.row.V.Denot

@@ -5,5 +5,5 @@ use Rattle.app_queue.proofs.tests.pop.Goals as goal
 
 pub returns-in-Got-clause-got : goal.returns-in-Got-clause-got
 returns-in-Got-clause-got c =
-    let hand = c.in-Got.ensures.hand in
-    (got_holds c.in-Got.value (knows c.args.seat.now) (knows c.pop_item_turn.new.seat) hand.0, c.in-Got.ensures.inside c.in-Got.place c.in-Got.value refl)
+    let hand = c.in-Got.ensures.told.hand in
+    (got_holds c.in-Got.value (knows c.args.seat.now) (knows c.pop_item_turn.new.seat) hand.0, c.in-Got.ensures.told.inside c.in-Got.place c.in-Got.value refl)

@@ -7,7 +7,7 @@ use Rattle.app_queue.proofs.tests.push_on.Goals as goal
 
 pub loop-preserved : goal.loop-preserved
 loop-preserved g c =
-    let hand = c.in-Lost.ensures.hand in
+    let hand = c.in-Lost.ensures.told.hand in
     record {
       able = search rules;
       ends = search rules;

@@ -5,7 +5,7 @@ use Rattle.app_queue.proofs.tests.take.Goals as goal
 
 pub returns-in-Got-clause-got : goal.returns-in-Got-clause-got
 returns-in-Got-clause-got c =
-    let hand = c.in-Got.ensures.hand in
+    let hand = c.in-Got.ensures.told.hand in
     let v = knows c.args.seat.now in
     let u = knows c.take_item_turn.new.seat in
     (got_holds c.in-Got.value v u hand.0, got_tag Free c.in-Got.value c.in-Got.place v u hand.1)

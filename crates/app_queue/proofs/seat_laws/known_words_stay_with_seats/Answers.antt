@@ -1,0 +1,8 @@
+use Rattle.app_queue.proofs.KnownFrames.{words_known_split, words_known_join}
+use Rattle.app_queue.proofs.seat_laws.known_words_stay_with_seats.Goals as goal
+
+pub returns-clause-split : goal.returns-clause-split
+returns-clause-split g c = words_known_split g.row.V.Denot g.J.Saying.says
+
+pub returns-clause-join : goal.returns-clause-join
+returns-clause-join g c = words_known_join g.row.V.Denot g.J.Saying.says
