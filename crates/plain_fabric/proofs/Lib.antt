@@ -1,0 +1,6 @@
+pub mod Passing
+pub mod Runs
+pub mod Streams
+pub mod Traces
+pub mod UnderWay
+pub mod Visits

@@ -1,0 +1,11 @@
+//! Requests from an engine to a worker and back on one thread, through the words, chunks and queues of a fabric.
+#![tactic(auto)]
+
+mod laws;
+mod message;
+
+pub use laws::{
+    a_plain_core_begins_at_rest, a_request_is_answered_from_rest_to_rest,
+    a_request_is_cancelled_from_rest_to_rest, any_trace_is_legal,
+};
+pub use message::Message;
