@@ -84,7 +84,8 @@ fn send(steps: &mut Vec<Step>, shape: &Shape, message: &Message) -> Result<(), A
         queue,
         item,
         place,
-    })
+    })?;
+    Ok(())
 }
 
 // The taker's steps of a message.
@@ -118,7 +119,8 @@ fn take(steps: &mut Vec<Step>, shape: &Shape, message: &Message) -> Result<(), A
         queue,
         item,
         place: message.place_behind(shape),
-    })
+    })?;
+    Ok(())
 }
 
 // The steps of a message that its sender settles.
@@ -153,7 +155,8 @@ fn withdraw(steps: &mut Vec<Step>, shape: &Shape, message: &Message) -> Result<(
         queue,
         item,
         place: message.place_behind(shape),
-    })
+    })?;
+    Ok(())
 }
 
 // The steps of all parts of a reply, by their sizes.
