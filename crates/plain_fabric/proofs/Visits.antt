@@ -181,23 +181,25 @@ module _ (shape : Shape) (engines : shape.engines ≡ 1) (workers : shape.worker
   draws core drawn sent is rest few =
       let next : core.next ≡ drawn + 1 = rest.next in
       let low : drawn + 1 < stream_limit = omega (arith, few) in
-      let enabled : Enabled core (Draw 0 (drawn + 1)) = rw (met_engine core 0 (engine_role shape engines workers core is), met_next_stream core (drawn + 1) (sym next) low) refl in
-      (enabled, record {
-        stands = record {
-          sound = keeps_sound core (Draw 0 (drawn + 1)) rest.sound enabled;
-          shape_is = is;
-          next_is = refl;
-          line_is = record { items = rest.line.items; untagged = rest.line.untagged; free = rest.line.free; next_free = rest.line.next_free; line = rest.line.line; next_line = rest.line.next_line };
-          back_is = record { items = rest.back.items; untagged = rest.back.untagged; free = rest.back.free; next_free = rest.back.next_free; line = rest.back.line; next_line = rest.back.next_line };
-          chunks = rest.chunks;
-        };
-        seats = ap (change_at 0 (noted (Drawn (drawn + 1)))) (seats_are_two core rest.sound is);
-        unposted_it = subst (λ (s : ℕ). has_stream s (seat_of core 0).posted ≡ false) next (unposted core rest.sound 0);
-        unlast = subst (λ (s : ℕ). list_any (λ (part : Part). part.stream == s && part.last) (seat_of core 1).sent ≡ false) next (unlast_next core rest.sound 1);
-        unclosed = subst (λ (s : ℕ). has_stream s (seat_of core 1).closed ≡ false) next (unclosed_next core rest.sound 1);
-        none = subst (λ (s : ℕ). weigh (of_stream s) (seat_of core 1).sent ≡ 0) next (none_sent core rest.sound 1);
-        nothing_open = rest.nothing_open;
-      })
+      let enabled : Enabled core (Draw 0 (drawn + 1)) = rw (met_engine core 0 (engine_role shape engines workers core is), met_next_stream core (drawn + 1) (sym next) low) refl in (
+        enabled,
+        record {
+          stands = record {
+            sound = keeps_sound core (Draw 0 (drawn + 1)) rest.sound enabled;
+            shape_is = is;
+            next_is = refl;
+            line_is = record { items = rest.line.items; untagged = rest.line.untagged; free = rest.line.free; next_free = rest.line.next_free; line = rest.line.line; next_line = rest.line.next_line };
+            back_is = record { items = rest.back.items; untagged = rest.back.untagged; free = rest.back.free; next_free = rest.back.next_free; line = rest.back.line; next_line = rest.back.next_line };
+            chunks = rest.chunks;
+          };
+          seats = ap (change_at 0 (noted (Drawn (drawn + 1)))) (seats_are_two core rest.sound is);
+          unposted_it = subst (λ (s : ℕ). has_stream s (seat_of core 0).posted ≡ false) next (unposted core rest.sound 0);
+          unlast = subst (λ (s : ℕ). list_any (λ (part : Part). part.stream == s && part.last) (seat_of core 1).sent ≡ false) next (unlast_next core rest.sound 1);
+          unclosed = subst (λ (s : ℕ). has_stream s (seat_of core 1).closed ≡ false) next (unclosed_next core rest.sound 1);
+          none = subst (λ (s : ℕ). weigh (of_stream s) (seat_of core 1).sent ≡ 0) next (none_sent core rest.sound 1);
+          nothing_open = rest.nothing_open;
+        },
+      )
 
   module _ (base : Core) (drawn sent size : ℕ) (engine worker : SeatLists) (has : HasDrawn drawn sent engine worker base) (few : drawn < 2 ^ 48) (fits : FitsSegment size) where
     abbrev request : Message
@@ -243,8 +245,8 @@ module _ (shape : Shape) (engines : shape.engines ≡ 1) (workers : shape.worker
         ∙ ap (λ (l : List SeatLists). change_at 0 (noted (settled_note (role_of base 0 == 0) 0 (drawn + 1) (sent_item base request))) (change_at 0 (noted (Posted (drawn + 1))) l)) has.seats
         ∙ ap (λ (k : ℕ). noted (settled_note (k == 0) 0 (drawn + 1) (sent_item base request)) (noted (Posted (drawn + 1)) (noted (Drawn (drawn + 1)) engine)) ∷ worker ∷ []) role in
         rests core (drawn + 1) sent (over_stands shape base core request 0 (drawn + 1 + 1) (drawn + 1) sent can over has.stands.shape_is has.stands.next_is
-            (passed_here base request can 0 core over) (passed_beside base request can 0 core over 1 sent (omega arith) has.stands.back_is))
-            (subst (λ (l : List SeatLists). HasNothingOpen (get_or l 0 no_seat)) (sym seats) (cancelled_again (drawn + 1) engine has.nothing_open)))
+        (passed_here base request can 0 core over) (passed_beside base request can 0 core over 1 sent (omega arith) has.stands.back_is))
+        (subst (λ (l : List SeatLists). HasNothingOpen (get_or l 0 no_seat)) (sym seats) (cancelled_again (drawn + 1) engine has.nothing_open)))
       where
         may_cancel : (core : Core) → IsSent base request core → MaySettle core 0 0 (item_of_message base.shape request) (drawn + 1)
         may_cancel core at =
@@ -299,8 +301,8 @@ module _ (shape : Shape) (engines : shape.engines ≡ 1) (workers : shape.worker
 
     last_leads : last ≡ true → Leads base (sending base.shape part ++ taking base.shape part) (λ core. IsAtRest core (drawn + 1) (sent + 1))
     last_leads is = so (IsOver base part 0) (λ core. IsAtRest core (drawn + 1) (sent + 1)) base (sending base.shape part ++ taking base.shape part) (message_leads base part can_part may_send_part) (λ core over.
-      rests core (drawn + 1) (sent + 1) (part_stands core over)
-      (subst (λ (l : List SeatLists). HasNothingOpen (get_or l 0 no_seat)) (sym (part_seats core over)) (goes_out (drawn + 1) number (seat_of base 0) (seat_of base 1) between.goes told refl (last_is number last ∙ is))))
+        rests core (drawn + 1) (sent + 1) (part_stands core over)
+        (subst (λ (l : List SeatLists). HasNothingOpen (get_or l 0 no_seat)) (sym (part_seats core over)) (goes_out (drawn + 1) number (seat_of base 0) (seat_of base 1) between.goes told refl (last_is number last ∙ is))))
 
   -- all parts from one on
   parts_lead : (drawn : ℕ) (sizes : List ℕ) (sent number : ℕ) (core : Core) → Between shape drawn sent number core → sizes ≢ [] → AllFit sizes → sent + length sizes < 2 ^ 61

@@ -159,28 +159,30 @@ fn withdraw(steps: &mut Vec<Step>, shape: &Shape, message: &Message) -> Result<(
     Ok(())
 }
 
-// The steps of all parts of a reply, by their sizes.
+// The steps of the parts of a reply from this number on, by their sizes.
 fn send_parts(
     steps: &mut Vec<Step>,
     shape: &Shape,
     drawn: u64,
     sent: u64,
+    number: u32,
     sizes: &[u32],
 ) -> Result<(), AllocError>
     requires plain { IsPlain shape.now }
     requires early { (drawn < 2 ^ 48) × (sent + length sizes.now < 2 ^ 61) }
-    requires few { length sizes.now ≤ 4096 }
+    requires few { number + length sizes.now ≤ 4096 }
     ensures { OnOk result
-        (steps.new.items ≡ steps.old.items ++ part_steps shape.now drawn sent 0 sizes.now) }
+        (steps.new.items ≡ steps.old.items ++ part_steps shape.now drawn sent number sizes.now) }
 {
-    for number in 0..sizes.len() {
-        let last = number + 1 == sizes.len();
-        let before = sent + number as u64;
-        let part = Message::of_part(drawn, before, number as u32, last, sizes[number]);
-        send(steps, shape, &part)?;
-        take(steps, shape, &part)?;
+    match sizes {
+        [] => Ok(()),
+        [size, rest @ ..] => {
+            let part = Message::of_part(drawn, sent, number, rest.is_empty(), *size);
+            send(steps, shape, &part)?;
+            take(steps, shape, &part)?;
+            send_parts(steps, shape, drawn, sent + 1, number + 1, rest)
+        }
     }
-    Ok(())
 }
 
 /// The steps of a request that is answered, from a machine at rest with so many streams drawn and so many parts sent: `size` is
@@ -209,7 +211,7 @@ pub fn answered_steps(
     })?;
     send(&mut steps, shape, &request)?;
     take(&mut steps, shape, &request)?;
-    send_parts(&mut steps, shape, drawn, sent, sizes)?;
+    send_parts(&mut steps, shape, drawn, sent, 0, sizes)?;
     Ok(steps)
 }
 

@@ -82,8 +82,9 @@ fn a_hung_up_client_and_an_answered_one(rt: HostRuntime) {
 fn a_reply_of_two_parts(rt: HostRuntime) {
     let shape = plain();
     assert!(rt; shape.valid() && shape.engines == 1 && shape.workers == 1);
-    let steps = answered_steps(rt.alloc(), &shape, 0, 0, 300_105, &[262_144, 37_910])
-        .expect(&rt, "listed");
+    let steps = answered_steps(rt.alloc(), &shape, 0, 0, 300_105, &[262_144, 37_910]).expect(
+        &rt, "listed",
+    );
     assert!(rt; steps.len() == 101);
     let mut core = Core::open(rt.alloc(), &shape).expect(&rt, "opened");
     assert!(rt; run_core(&mut core, &steps).is_ok());
@@ -107,7 +108,9 @@ fn items_take_turns(rt: HostRuntime) {
     assert!(rt; shape.valid() && shape.engines == 1 && shape.workers == 1);
     let mut core = Core::open(rt.alloc(), &shape).expect(&rt, "opened");
     for drawn in 0..9 {
-        let steps = answered_steps(rt.alloc(), &shape, drawn, drawn, 1, &[16_385]).expect(&rt, "listed");
+        let steps = answered_steps(rt.alloc(), &shape, drawn, drawn, 1, &[16_385]).expect(
+            &rt, "listed",
+        );
         assert!(rt; steps.len() == 23);
         assert!(rt; run_core(&mut core, &steps).is_ok());
     }
