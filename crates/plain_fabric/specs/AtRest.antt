@@ -18,10 +18,11 @@ turn_of shape queue k = record { place = shape.start + k; item = k % items_of sh
 
 -- the free list behind so many messages, each of which was taken and whose item was given back
 abbrev pub free_list : Shape → ℕ → ℕ → List Entry
-free_list shape queue before = map (turn_of shape queue) (range_with_len before (items_of shape queue))
+free_list shape queue before =
+    map (turn_of shape queue) (range_with_len before (items_of shape queue))
 
--- So many messages went through the queue, and none is under way: each item is in the free list and has no tag, and the line is
--- empty.
+-- So many messages went through the queue, and none is under way: each item is in the free list and
+-- has no tag, and the line is empty.
 pub record HasPassed (core : Core) (queue before : ℕ) : Type 0 where
   pub items : IsItsFreeList core queue
   pub untagged : (item : ℕ) → (item_of core queue item).tag ≡ 0
@@ -31,11 +32,12 @@ pub record HasPassed (core : Core) (queue before : ℕ) : Type 0 where
   pub line : (queue_of core queue).line ≡ []
   pub next_line : (queue_of core queue).next_line ≡ core.shape.start + before
 
--- An engine has nothing open: it has given no stream up, has posted each one that it drew, and has cancelled each one that it
--- posted or received its last part.
+-- An engine has nothing open: it has given no stream up, has posted each one that it drew, and has
+-- cancelled each one that it posted or received its last part.
 pub record HasNothingOpen (lists : SeatLists) : Type 0 where
   pub abandoned : lists.abandoned ≡ []
-  pub posted : (stream : ℕ) → has_stream stream lists.drawn ≡ true → has_stream stream lists.posted ≡ true
+  pub posted : (stream : ℕ) → has_stream stream lists.drawn ≡ true
+      → has_stream stream lists.posted ≡ true
   pub ended : (stream : ℕ) → has_stream stream lists.posted ≡ true
       → (has_stream stream lists.cancelled ≡ true)
       ⊎ (list_any (λ part. part.stream == stream && part.last) lists.received ≡ true)

@@ -5,6 +5,7 @@ use Rattle.unit_model.specs.Opening.{opened_core}
 use Rattle.unit_model.specs.Running.{AllEnabled, after_steps}
 use Rattle.unit_model.specs.Shapes.{IsValid}
 use Rattle.unit_model.specs.declared.machine.Core.{Core}
+use Rattle.unit_model.specs.declared.machine.Step.{Step}
 use Rattle.unit_model.specs.declared.shape.Shape.{Shape}
 use Rattle.plain_fabric.specs.AtRest.{IsAtRest}
 use Rattle.plain_fabric.specs.Schedule.{Passed, Answered, HungUp, answered_steps, hung_up_steps, parts_in, trace_of}
@@ -45,17 +46,25 @@ pub record IsPlain (shape : Shape) : Type 0 where
   pub engines : shape.engines ≡ 1
   pub workers : shape.workers ≡ 1
 
+-- each of the steps is enabled in its turn, and behind them the core is at rest
+abbrev pub LeadsToRest : Core → List Step → ℕ → ℕ → Type 0
+LeadsToRest core steps drawn sent =
+    AllEnabled core steps × IsAtRest (after_steps core steps) drawn sent
+
 abbrev pub AnsweredLaw : Type 0
-AnsweredLaw = (core : Core) (drawn sent size : ℕ) (sizes : List ℕ) → IsAtRest core drawn sent → IsEarly drawn sent
+AnsweredLaw = (core : Core) (drawn sent size : ℕ) (sizes : List ℕ)
+    → IsAtRest core drawn sent
+    → IsEarly drawn sent
     → CanPass (Answered size sizes)
-    → AllEnabled core (answered_steps core.shape drawn sent size sizes)
-    × IsAtRest (after_steps core (answered_steps core.shape drawn sent size sizes)) (drawn + 1) (sent + length sizes)
+    → LeadsToRest core (answered_steps core.shape drawn sent size sizes)
+    (drawn + 1) (sent + length sizes)
 
 abbrev pub HungUpLaw : Type 0
-HungUpLaw = (core : Core) (drawn sent size : ℕ) → IsAtRest core drawn sent → IsEarly drawn sent
+HungUpLaw = (core : Core) (drawn sent size : ℕ)
+    → IsAtRest core drawn sent
+    → IsEarly drawn sent
     → CanPass (HungUp size)
-    → AllEnabled core (hung_up_steps core.shape drawn size)
-    × IsAtRest (after_steps core (hung_up_steps core.shape drawn size)) (drawn + 1) sent
+    → LeadsToRest core (hung_up_steps core.shape drawn size) (drawn + 1) sent
 
 abbrev pub OpenedLaw : Type 0
 OpenedLaw = (shape : Shape) → IsPlain shape → IsAtRest (opened_core shape) 0 0
@@ -64,9 +73,9 @@ abbrev pub parts_of_all : List Passed → ℕ
 parts_of_all [] = 0
 parts_of_all (passed ∷ more) = parts_in passed + parts_of_all more
 
--- the trace of any requests is a legal run from the opened core, and after it the machine is at rest
+-- the trace of any requests is a legal run from the opened core, and leads to rest
 abbrev pub TraceLaw : Type 0
 TraceLaw = (shape : Shape) (requests : List Passed) → IsPlain shape → AllCanPass requests
     → length requests ≤ 2 ^ 48
-    → AllEnabled (opened_core shape) (trace_of shape requests)
-    × IsAtRest (after_steps (opened_core shape) (trace_of shape requests)) (length requests) (parts_of_all requests)
+    → LeadsToRest (opened_core shape) (trace_of shape requests)
+    (length requests) (parts_of_all requests)

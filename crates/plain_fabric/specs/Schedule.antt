@@ -1,5 +1,5 @@
--- What one thread does that plays an engine and a worker in turn: the engine has seat 0, the worker seat 1. All steps of a
--- request are done before those of the next one.
+-- What one thread does that plays an engine and a worker in turn: the engine has seat 0, the worker
+-- seat 1. All steps of a request are done before those of the next one.
 use Rattle.std.specs.Prelude.{ℕ, ◌+◌, ◌%◌, Bool, true, false, List, [], ◌∷◌, ◌++◌, length, map}
 use Rattle.port_message.specs.Words.{part_word_of}
 use Rattle.unit_model.specs.Holding.{first_segment, items_of}
@@ -19,7 +19,8 @@ item_of_message shape m = m.before % items_of shape m.queue
 abbrev pub place_of_message : Shape → Message → ℕ
 place_of_message shape m = shape.start + m.before
 
--- its chunks: all are free, so the lowest run of free ones is at the beginning of the side of those who fill the queue
+-- its chunks: all are free, so the lowest run of free ones is at the beginning of the side of those
+-- who fill the queue
 abbrev pub run_of_message : Shape → Message → Run
 run_of_message shape m = record {
   segment = first_segment shape m.queue;
@@ -58,7 +59,8 @@ taking shape m =
     ++ GiveItem m.to m.queue (item_of_message shape m) (place_behind shape m)
     ∷ []
 
--- the sender settles its own message and releases the chunks; the taker pops the item and gives it back
+-- the sender settles its own message and releases the chunks; the taker pops the item and gives it
+-- back
 abbrev pub withdrawing : Shape → Message → List Step
 withdrawing shape m =
     Settle m.from m.queue (item_of_message shape m) m.stream
@@ -104,7 +106,8 @@ part_steps shape drawn sent number (size ∷ sizes) =
     let m = part_message drawn sent number (is_none sizes) size in
     (sending shape m ++ taking shape m) ++ part_steps shape drawn (sent + 1) (number + 1) sizes
 
--- a request that is answered: the engine draws its stream, its record goes to the worker, and the parts of the reply come back
+-- a request that is answered: the engine draws its stream, its record goes to the worker, and the
+-- parts of the reply come back
 abbrev pub answered_steps : Shape → ℕ → ℕ → ℕ → List ℕ → List Step
 answered_steps shape drawn sent size sizes =
     let m = request_message drawn size in

@@ -6,7 +6,8 @@ pub fn a_plain_core_begins_at_rest()
     ensures { OpenedLaw }
 {}
 
-/// From a core at rest each step of an answered request is enabled in its turn, and behind them the core is at rest.
+/// From a core at rest each step of an answered request is enabled in its turn, and behind them the
+/// core is at rest.
 pub fn a_request_is_answered_from_rest_to_rest()
     ensures { AnsweredLaw }
 {}
@@ -16,8 +17,9 @@ pub fn a_request_is_cancelled_from_rest_to_rest()
     ensures { HungUpLaw }
 {}
 
-/// The trace of any requests is a legal run of the machine from its opened core, and leads to rest: all chunks are free, no item
-/// has a tag, lines are empty, each item is in its free list, and no stream is open.
+/// The trace of any requests is a legal run of the machine from its opened core, and leads to rest:
+/// all chunks are free, no item has a tag, lines are empty, each item is in its free list, and no
+/// stream is open.
 pub fn any_trace_is_legal()
     ensures { TraceLaw }
 {}

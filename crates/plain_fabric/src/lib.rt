@@ -1,4 +1,5 @@
-//! Requests from an engine to a worker and back on one thread, through the words, chunks and queues of a fabric.
+//! Requests from an engine to a worker and back on one thread, through the words, chunks and queues
+//! of a fabric.
 #![tactic(auto)]
 
 mod laws;

@@ -79,7 +79,7 @@ impl Message {
 
     /// The place at which its item is got, pushed and popped.
     pub fn place(&self, shape: &Shape) -> u64
-        requires { shape.now.start + self.now.before < 2 ^ 64 }
+        requires { place_of_message shape.now self.now < 2 ^ 64 }
         ensures { result ≡ place_of_message shape.now self.now }
     {
         shape.start + self.before
@@ -87,7 +87,7 @@ impl Message {
 
     /// The place at which its item is given back: behind all others.
     pub fn place_behind(&self, shape: &Shape) -> u64
-        requires { shape.now.start + items_of shape.now self.now.queue + self.now.before < 2 ^ 64 }
+        requires { place_behind shape.now self.now < 2 ^ 64 }
         ensures { result ≡ place_behind shape.now self.now }
     {
         shape.start + self.items(shape) as u64 + self.before

@@ -1,8 +1,7 @@
 //! The steps of a request, from the engine to the worker and back.
-ghost use Rattle.std.specs.Prelude.{◌≡◌, ◌+◌, ◌++◌, ◌∷◌, ◌<◌, ◌≤◌, ◌^◌, [], length, IfOk, OnOk};
+ghost use Rattle.std.specs.Prelude.{◌≡◌, ◌+◌, ◌++◌, ◌<◌, ◌≤◌, ◌^◌, length, IfOk, OnOk};
 ghost use Rattle.plain_fabric.specs.Laws.{IsPlain};
-ghost use Rattle.plain_fabric.specs.Schedule.{answered_steps, claims, hung_up_steps, part_steps, releases, sending, taking, withdrawing};
-ghost use Rattle.unit_model.specs.Holding.{items_of};
+ghost use Rattle.plain_fabric.specs.Schedule.{answered_steps, claims, hung_up_steps, part_steps, place_behind, releases, sending, taking, withdrawing};
 
 use crate::message::Message;
 use std::alloc::{AllocError, Global};
@@ -41,7 +40,7 @@ fn release(steps: &mut Vec<Step>, seat: u32, run: Run) -> Result<(), AllocError>
 // The sender's steps of a message.
 fn send(steps: &mut Vec<Step>, shape: &Shape, message: &Message) -> Result<(), AllocError>
     requires plain { IsPlain shape.now }
-    requires early { shape.now.start + items_of shape.now message.now.queue + message.now.before < 2 ^ 63 }
+    requires early { place_behind shape.now message.now < 2 ^ 63 }
     ensures { OnOk result (steps.new.items ≡ steps.old.items ++ sending shape.now message.now) }
 {
     let Message {
@@ -91,7 +90,7 @@ fn send(steps: &mut Vec<Step>, shape: &Shape, message: &Message) -> Result<(), A
 // The taker's steps of a message.
 fn take(steps: &mut Vec<Step>, shape: &Shape, message: &Message) -> Result<(), AllocError>
     requires plain { IsPlain shape.now }
-    requires early { shape.now.start + items_of shape.now message.now.queue + message.now.before < 2 ^ 63 }
+    requires early { place_behind shape.now message.now < 2 ^ 63 }
     ensures { OnOk result (steps.new.items ≡ steps.old.items ++ taking shape.now message.now) }
 {
     let Message {
@@ -126,8 +125,9 @@ fn take(steps: &mut Vec<Step>, shape: &Shape, message: &Message) -> Result<(), A
 // The steps of a message that its sender settles.
 fn withdraw(steps: &mut Vec<Step>, shape: &Shape, message: &Message) -> Result<(), AllocError>
     requires plain { IsPlain shape.now }
-    requires early { shape.now.start + items_of shape.now message.now.queue + message.now.before < 2 ^ 63 }
-    ensures { OnOk result (steps.new.items ≡ steps.old.items ++ withdrawing shape.now message.now) }
+    requires early { place_behind shape.now message.now < 2 ^ 63 }
+    ensures { OnOk result
+        (steps.new.items ≡ steps.old.items ++ withdrawing shape.now message.now) }
 {
     let Message {
         from,
@@ -185,8 +185,9 @@ fn send_parts(
     }
 }
 
-/// The steps of a request that is answered, from a machine at rest with so many streams drawn and so many parts sent: `size` is
-/// the bytes of the request's record, and `sizes` those of the parts of the reply's.
+/// The steps of a request that is answered, from a machine at rest with so many streams drawn and
+/// so many parts sent: `size` is the bytes of the request's record, and `sizes` those of the parts
+/// of the reply's.
 ///
 /// Fails for want of memory alone.
 pub fn answered_steps(

@@ -77,7 +77,8 @@ fn a_hung_up_client_and_an_answered_one(rt: HostRuntime) {
     assert!(rt; core.next_stream() == 3 && core.free_place(0) == 10 && core.free_place(1) == 9);
 }
 
-// A body of 300,000 bytes comes back: 19 chunks of the request, 16 and 3 of the two parts of the reply.
+// A body of 300,000 bytes comes back: 19 chunks of the request, 16 and 3 of the two parts of the
+// reply.
 #[test]
 fn a_reply_of_two_parts(rt: HostRuntime) {
     let shape = plain();
