@@ -1,3 +1,4 @@
+pub mod Lists
 pub mod Passing
 pub mod Runs
 pub mod Streams

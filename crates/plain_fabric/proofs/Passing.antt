@@ -38,20 +38,28 @@ use Rattle.plain_fabric.specs.Schedule.{item_of_message, place_of_message, place
 
 pub first_turn : (f : ℕ → Entry) (a n : ℕ) → 1 ≤ n → map f (range_with_len a n) ≡ f a ∷ map f (range_with_len (a + 1) (n - 1))
 first_turn f a zero some = absurd (omega arith)
-first_turn f a (suc n) some = refl
+first_turn f a (suc n) some =
+    let less : n ≡ suc n - 1 = omega arith in
+    ap (λ (k : ℕ). f a ∷ map f (range_with_len (a + 1) k)) less
 
-pub one_turn_more : (f : ℕ → Entry) (a n : ℕ) → map f (range_with_len a n) ++ f (a + n) ∷ [] ≡ map f (range_with_len a (suc n))
+pub one_turn_more : {X : Type 0} (f : ℕ → X) (a n : ℕ) → map f (range_with_len a n) ++ f (a + n) ∷ [] ≡ map f (range_with_len a (suc n))
 one_turn_more f a zero = ap (λ (k : ℕ). f k ∷ []) (omega arith)
-one_turn_more f a (suc n) =
+one_turn_more {X = X} f a (suc n) =
     let on : a + suc n ≡ a + 1 + n = omega arith in
-    ap (λ (k : ℕ). f a ∷ (map f (range_with_len (a + 1) n) ++ f k ∷ [])) on ∙ ap (λ (es : List Entry). f a ∷ es) (one_turn_more f (a + 1) n)
+    ap (λ (k : ℕ). f a ∷ (map f (range_with_len (a + 1) n) ++ f k ∷ [])) on ∙ ap (λ (xs : List X). f a ∷ xs) (one_turn_more f (a + 1) n)
 
 -- the first entry goes, and one comes behind the last
 pub turned : (f : ℕ → Entry) (a n : ℕ) → 1 ≤ n → map f (range_with_len (a + 1) (n - 1)) ++ f (a + n) ∷ [] ≡ map f (range_with_len (a + 1) n)
 turned f a zero some = absurd (omega arith)
 turned f a (suc n) some =
+    let less : suc n - 1 ≡ n = omega arith in
     let on : a + suc n ≡ a + 1 + n = omega arith in
-    ap (λ (k : ℕ). map f (range_with_len (a + 1) n) ++ f k ∷ []) on ∙ one_turn_more f (a + 1) n
+    ap (λ (k : ℕ). map f (range_with_len (a + 1) k) ++ f (a + suc n) ∷ []) less
+    ∙ ap (λ (k : ℕ). map f (range_with_len (a + 1) n) ++ f k ∷ []) on
+    ∙ one_turn_more f (a + 1) n
+
+abbrev entry_by : ℕ → ℕ → Entry
+entry_by place item = record { place = place; item = item }
 
 -- ---- chunks, one after another
 
@@ -327,6 +335,14 @@ module _ (base : Core) (m : Message) where
 
     pub passed_here : (seat : ℕ) (core : Core) → IsOver seat core → HasPassed core m.queue (m.before + 1)
     passed_here seat core over =
+        let at : place_behind base.shape m ≡ base.shape.start + (m.before + n) = omega arith in
+        let turn : m.before % n ≡ (m.before + n) % n = sym (add-mod_right m.before n) in
+        let last_is : entry (place_behind base.shape m) ≡ turn_of base.shape m.queue (m.before + n) = ap₂ (λ (p k : ℕ). entry_by p k) at turn in
+        let behind : base.shape.start + items_of base.shape m.queue + m.before + 1 ≡ core.shape.start + items_of core.shape m.queue + m.before + 1 =
+        ap (λ (s : Shape). s.start + items_of s m.queue + m.before + 1) (sym over.shape) in
+        let behind_on : core.shape.start + items_of core.shape m.queue + m.before + 1 ≡ core.shape.start + items_of core.shape m.queue + (m.before + 1) = omega arith in
+        let next : base.shape.start + m.before + 1 ≡ core.shape.start + m.before + 1 = ap (λ (s : Shape). s.start + m.before + 1) (sym over.shape) in
+        let next_on : core.shape.start + m.before + 1 ≡ core.shape.start + (m.before + 1) = omega arith in
         record {
           items = λ j inside. elim (cases_eq j i) [
             | inl same ↦ ap (λ (k : ℕ). (item_of core q k).whereabouts) same ∙ ap (λ (k : Item). k.whereabouts) over.has.item
@@ -340,16 +356,10 @@ module _ (base : Core) (m : Message) where
               ∙ ap (λ (e : Entry). rest ++ e ∷ []) last_is
               ∙ turned (turn_of base.shape m.queue) m.before n some_items
               ∙ ap (λ (s : Shape). free_list s m.queue (m.before + 1)) (sym over.shape);
-          next_free = over.has.next_free ∙ ap (λ (s : Shape). s.start + items_of s m.queue + m.before + 1) (sym over.shape) ∙ omega arith;
+          next_free = over.has.next_free ∙ behind ∙ behind_on;
           line = over.has.line;
-          next_line = over.has.next_line ∙ ap (λ (s : Shape). s.start + m.before + 1) (sym over.shape) ∙ omega arith;
+          next_line = over.has.next_line ∙ next ∙ next_on;
         }
-      where
-        last_is : entry (place_behind base.shape m) ≡ turn_of base.shape m.queue (m.before + n)
-        last_is = ap₂ (λ (p k : ℕ). the_entry p k) (omega arith) (sym (add-mod_right m.before n))
-          where
-            the_entry : ℕ → ℕ → Entry
-            the_entry p k = record { place = p; item = k }
 
     pub passed_beside : (seat : ℕ) (core : Core) → IsOver seat core → (p before : ℕ) → p ≢ m.queue → HasPassed base p before → HasPassed core p before
     passed_beside seat core over p before other old =

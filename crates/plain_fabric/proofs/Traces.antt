@@ -33,19 +33,23 @@ first_turns : (shape : Shape) (queue n : ℕ) → n ≤ items_of shape queue →
 first_turns shape queue zero within = refl
 first_turns shape queue (suc n) within =
     let small : n % items_of shape queue ≡ n = mod-eq_of_lt (omega arith) in
+    let zero_n : n ≡ 0 + n = omega arith in
     ap₂ (λ (es : List Entry) (k : ℕ). es ++ (record { place = shape.start + n; item = k }) ∷ []) (first_turns shape queue n (omega (arith, within))) (sym small)
+    ∙ ap (λ (k : ℕ). map (turn_of shape queue) (range_with_len 0 n) ++ turn_of shape queue k ∷ []) zero_n
     ∙ one_turn_more (turn_of shape queue) 0 n
 
 fresh_has_passed : (core : Core) (queue : ℕ) → queue_of core queue ≡ fresh_queue core.shape.start (items_of core.shape queue) → HasPassed core queue 0
 fresh_has_passed core queue is =
+    let behind : core.shape.start + items_of core.shape queue ≡ core.shape.start + items_of core.shape queue + 0 = omega arith in
+    let next : core.shape.start ≡ core.shape.start + 0 = omega arith in
     let blank_is : (item : ℕ) → item_of core queue item ≡ blank = λ item. ap (λ (q : Queue). get_or q.items item blank) is ∙ all_the_same (items_of core.shape queue) item blank in
     record {
       items = λ item inside. ap (λ (k : Item). k.whereabouts) (blank_is item);
       untagged = λ item. ap (λ (k : Item). k.tag) (blank_is item);
       free = ap (λ (q : Queue). q.free) is ∙ first_turns core.shape queue (items_of core.shape queue) (omega arith);
-      next_free = ap (λ (q : Queue). q.next_free) is ∙ omega arith;
+      next_free = ap (λ (q : Queue). q.next_free) is ∙ behind;
       line = ap (λ (q : Queue). q.line) is;
-      next_line = ap (λ (q : Queue). q.next_line) is ∙ omega arith;
+      next_line = ap (λ (q : Queue). q.next_line) is ∙ next;
     }
 
 pub opened : OpenedLaw
@@ -90,7 +94,7 @@ all_lead shape [] core drawn sent is rest few room can =
     let no_part : sent ≡ sent + 0 = omega arith in
     done (λ c. IsAtRest c (drawn + 0) (sent + 0)) core (subst (λ (k : ℕ). IsAtRest core k (sent + 0)) none (subst (λ (k : ℕ). IsAtRest core drawn k) no_part rest))
 all_lead shape (passed ∷ more) core drawn sent is rest few room can =
-    let early : IsEarly drawn sent = record { drawn = omega (arith, room); sent = few } in
+    let early : IsEarly drawn sent = record { few_drawn = omega (arith, room); few_sent = few } in
     let one : Leads core (steps_of shape drawn sent passed) (λ c. IsAtRest c (drawn + 1) (sent + parts_in passed)) =
     subst (λ (s : Shape). Leads core (steps_of s drawn sent passed) (λ c. IsAtRest c (drawn + 1) (sent + parts_in passed))) is (one_leads core drawn sent passed rest early can.0) in
     let kept : Leads core (steps_of shape drawn sent passed) (λ c. IsAtRest c (drawn + 1) (sent + parts_in passed) × (c.shape ≡ shape)) =

@@ -72,16 +72,16 @@ module _ (base : Core) (q i : ℕ) where
     here : queue_of new q ≡ change (queue_of core q)
     elsewhere : (p : ℕ) → p ≢ q → queue_of new p ≡ queue_of core p
 
-  turned_once : (core : Core) (lane : Lane) (change : Queue → Queue) → HasLane core lane → Turned core (record core { queues = change_at q change core.queues }) change
-  turned_once core lane change old = record {
-    here = changed_at q change core.queues no_queue (queue_there core.queues q i old.inside);
-    elsewhere = λ p other. unchanged_at q change core.queues p no_queue other;
+  turned_once : (core new : Core) (lane : Lane) (change : Queue → Queue) → HasLane core lane → new.queues ≡ change_at q change core.queues → Turned core new change
+  turned_once core new lane change old is = record {
+    here = ap (λ (queues : List Queue). get_or queues q no_queue) is ∙ changed_at q change core.queues no_queue (queue_there core.queues q i old.inside);
+    elsewhere = λ p other. ap (λ (queues : List Queue). get_or queues p no_queue) is ∙ unchanged_at q change core.queues p no_queue other;
   }
 
-  turned_twice : (core : Core) (lane : Lane) (first second : Queue → Queue) → HasLane core lane → Turned core (record core { queues = change_at q second (change_at q first core.queues) }) (λ k. second (first k))
-  turned_twice core lane first second old = record {
-    here = twice_here core.queues q first second (queue_there core.queues q i old.inside);
-    elsewhere = λ p other. twice_elsewhere core.queues q first second p other;
+  turned_twice : (core new : Core) (lane : Lane) (first second : Queue → Queue) → HasLane core lane → new.queues ≡ change_at q second (change_at q first core.queues) → Turned core new (λ k. second (first k))
+  turned_twice core new lane first second old is = record {
+    here = ap (λ (queues : List Queue). get_or queues q no_queue) is ∙ twice_here core.queues q first second (queue_there core.queues q i old.inside);
+    elsewhere = λ p other. ap (λ (queues : List Queue). get_or queues p no_queue) is ∙ twice_elsewhere core.queues q first second p other;
   }
 
   -- where item i is set
@@ -134,7 +134,7 @@ module _ (base : Core) (q i : ℕ) where
             shape = old.shape;
             next_is = old.next_is;
             seats_are = old.seats_are;
-            has = lane_turned core (after_step core (GetItem seat q i place)) lane now (λ k. second (first k)) old.has (turned_twice core lane first second old.has)
+            has = lane_turned core (after_step core (GetItem seat q i place)) lane now (λ k. second (first k)) old.has (turned_twice core (after_step core (GetItem seat q i place)) lane first second old.has refl)
                 (ap (λ (k : Item). set (queue_of core q).items i (record k { whereabouts = WithSeat seat })) old.has.item)
                 (ap (drop 1) free) old.has.next_free old.has.line old.has.next_line;
             chunks = record { within = old.chunks.within; off = old.chunks.off };
@@ -154,7 +154,7 @@ module _ (base : Core) (q i : ℕ) where
             shape = old.shape;
             next_is = old.next_is;
             seats_are = old.seats_are;
-            has = lane_turned core (after_step core (SetRun seat q i run)) lane now change old.has (turned_once core lane change old.has)
+            has = lane_turned core (after_step core (SetRun seat q i run)) lane now change old.has (turned_once core (after_step core (SetRun seat q i run)) lane change old.has refl)
                 (ap (λ (k : Item). set (queue_of core q).items i (record k { run = run })) old.has.item)
                 old.has.free old.has.next_free old.has.line old.has.next_line;
             chunks = record { within = old.chunks.within; off = old.chunks.off };
@@ -174,7 +174,7 @@ module _ (base : Core) (q i : ℕ) where
             shape = old.shape;
             next_is = old.next_is;
             seats_are = old.seats_are;
-            has = lane_turned core (after_step core (SetPart seat q i part)) lane now change old.has (turned_once core lane change old.has)
+            has = lane_turned core (after_step core (SetPart seat q i part)) lane now change old.has (turned_once core (after_step core (SetPart seat q i part)) lane change old.has refl)
                 (ap (λ (k : Item). set (queue_of core q).items i (record k { part = part })) old.has.item)
                 old.has.free old.has.next_free old.has.line old.has.next_line;
             chunks = record { within = old.chunks.within; off = old.chunks.off };
@@ -218,7 +218,7 @@ module _ (base : Core) (q i : ℕ) where
             shape = old.shape;
             next_is = old.next_is;
             seats_are = ap (change_at seat (noted (armed_note q stream it))) old.seats_are ∙ ap (λ (k : Item). change_at seat (noted (armed_note q stream k)) seats) old.has.item;
-            has = lane_turned core new lane now change old.has (turned_once core lane change old.has)
+            has = lane_turned core new lane now change old.has (turned_once core new lane change old.has refl)
                 (ap (λ (k : Item). set (queue_of core q).items i (record k { tag = stream; stream = stream })) old.has.item)
                 old.has.free old.has.next_free old.has.line old.has.next_line;
             chunks = run_goes new (Message q i) fits is_low is_high refl;
@@ -242,7 +242,7 @@ module _ (base : Core) (q i : ℕ) where
             shape = old.shape;
             next_is = old.next_is;
             seats_are = old.seats_are;
-            has = lane_turned core (after_step core (Push seat q i place)) lane now (λ k. second (first k)) old.has (turned_twice core lane first second old.has)
+            has = lane_turned core (after_step core (Push seat q i place)) lane now (λ k. second (first k)) old.has (turned_twice core (after_step core (Push seat q i place)) lane first second old.has refl)
                 (ap (λ (k : Item). set (queue_of core q).items i (record k { whereabouts = InLine })) old.has.item)
                 old.has.free old.has.next_free (ap (λ (es : List Entry). es ++ entry ∷ []) old.has.line) refl;
             chunks = record { within = old.chunks.within; off = old.chunks.off };
@@ -267,7 +267,7 @@ module _ (base : Core) (q i : ℕ) where
             shape = old.shape;
             next_is = old.next_is;
             seats_are = old.seats_are;
-            has = lane_turned core (after_step core (Pop seat q i place)) lane now (λ k. second (first k)) old.has (turned_twice core lane first second old.has)
+            has = lane_turned core (after_step core (Pop seat q i place)) lane now (λ k. second (first k)) old.has (turned_twice core (after_step core (Pop seat q i place)) lane first second old.has refl)
                 (ap (λ (k : Item). set (queue_of core q).items i (record k { whereabouts = WithSeat seat })) old.has.item)
                 old.has.free old.has.next_free (ap (drop 1) line) old.has.next_line;
             chunks = record { within = old.chunks.within; off = old.chunks.off };
@@ -292,7 +292,7 @@ module _ (base : Core) (q i : ℕ) where
             shape = old.shape;
             next_is = old.next_is;
             seats_are = ap (change_at seat (noted (settled_note (role_of core seat == 0) q stream it))) old.seats_are ∙ ap (λ (k : Item). change_at seat (noted (settled_note (role_of core seat == 0) q stream k)) seats) old.has.item;
-            has = lane_turned core new lane now change old.has (turned_once core lane change old.has)
+            has = lane_turned core new lane now change old.has (turned_once core new lane change old.has refl)
                 (ap (λ (k : Item). set (queue_of core q).items i (record k { tag = 0 })) old.has.item)
                 old.has.free old.has.next_free old.has.line old.has.next_line;
             chunks = run_goes new (Seat seat) fits is_low is_high refl;
@@ -316,7 +316,7 @@ module _ (base : Core) (q i : ℕ) where
             shape = old.shape;
             next_is = old.next_is;
             seats_are = old.seats_are;
-            has = lane_turned core (after_step core (GiveItem seat q i place)) lane now (λ k. second (first k)) old.has (turned_twice core lane first second old.has)
+            has = lane_turned core (after_step core (GiveItem seat q i place)) lane now (λ k. second (first k)) old.has (turned_twice core (after_step core (GiveItem seat q i place)) lane first second old.has refl)
                 (ap (λ (k : Item). set (queue_of core q).items i (record k { whereabouts = InFreeList })) old.has.item)
                 (ap (λ (es : List Entry). es ++ entry ∷ []) old.has.free) refl old.has.line old.has.next_line;
             chunks = record { within = old.chunks.within; off = old.chunks.off };

@@ -304,6 +304,9 @@ module _ (shape : Shape) (engines : shape.engines ≡ 1) (workers : shape.worker
         rests core (drawn + 1) (sent + 1) (part_stands core over)
         (subst (λ (l : List SeatLists). HasNothingOpen (get_or l 0 no_seat)) (sym (part_seats core over)) (goes_out (drawn + 1) number (seat_of base 0) (seat_of base 1) between.goes told refl (last_is number last ∙ is))))
 
+  fit_rest : (size : ℕ) (sizes : List ℕ) → AllFit (size ∷ sizes) → AllFit sizes
+  fit_rest size sizes fit = fit.1
+
   -- all parts from one on
   parts_lead : (drawn : ℕ) (sizes : List ℕ) (sent number : ℕ) (core : Core) → Between shape drawn sent number core → sizes ≢ [] → AllFit sizes → sent + length sizes < 2 ^ 61
       → Leads core (part_steps shape drawn sent number sizes) (λ c. IsAtRest c (drawn + 1) (sent + length sizes))
@@ -321,18 +324,18 @@ module _ (shape : Shape) (engines : shape.engines ≡ 1) (workers : shape.worker
       joined (Between shape drawn (sent + 1) (number + 1)) (λ c. IsAtRest c (drawn + 1) (sent + length (size ∷ (another ∷ sizes)))) core (sending shape m ++ taking shape m) (part_steps shape drawn (sent + 1) (number + 1) (another ∷ sizes))
       (subst (λ (s : Shape). Leads core (sending s m ++ taking s m) (Between shape drawn (sent + 1) (number + 1))) between.stands.shape_is run)
       (λ c now. subst (λ (k : ℕ). Leads c (part_steps shape drawn (sent + 1) (number + 1) (another ∷ sizes)) (λ e. IsAtRest e (drawn + 1) k)) all
-      (parts_lead drawn (another ∷ sizes) (sent + 1) (number + 1) c now (λ none. absurd (cc none)) fit.1 (omega (arith, few))))
+      (parts_lead drawn (another ∷ sizes) (sent + 1) (number + 1) c now (λ none. absurd (cc none)) (fit_rest size (another ∷ sizes) fit) (omega (arith, few))))
 
 -- ---- the two schedules
 
 pub answered : AnsweredLaw
 answered core drawn sent size sizes rest early can =
-    let first = draws core.shape rest.engines rest.workers core drawn sent refl rest early.drawn in
+    let first = draws core.shape rest.engines rest.workers core drawn sent refl rest early.few_drawn in
     let core1 : Core = after_step core (Draw 0 (drawn + 1)) in
     let m : Message = request_message drawn size in
     let has = first.1 in
-    let run : Leads core1 (sending core1.shape m ++ taking core1.shape m) (Between core.shape drawn sent 0) = taken_leads core.shape rest.engines rest.workers core1 drawn sent size (seat_of core 0) (seat_of core 1) has early.drawn can.0 in
-    let few : sent + length sizes < 2 ^ 61 = omega (arith, early.sent, early.drawn, can.3) in
+    let run : Leads core1 (sending core1.shape m ++ taking core1.shape m) (Between core.shape drawn sent 0) = taken_leads core.shape rest.engines rest.workers core1 drawn sent size (seat_of core 0) (seat_of core 1) has early.few_drawn can.0 in
+    let few : sent + length sizes < 2 ^ 61 = omega (arith, early.few_sent, early.few_drawn, can.3) in
     then (λ c. IsAtRest c (drawn + 1) (sent + length sizes)) core (Draw 0 (drawn + 1)) ((sending core.shape m ++ taking core.shape m) ++ part_steps core.shape drawn sent 0 sizes) first.0
     (joined (Between core.shape drawn sent 0) (λ c. IsAtRest c (drawn + 1) (sent + length sizes)) core1 (sending core.shape m ++ taking core.shape m) (part_steps core.shape drawn sent 0 sizes)
     (subst (λ (s : Shape). Leads core1 (sending s m ++ taking s m) (Between core.shape drawn sent 0)) has.stands.shape_is run)
@@ -340,10 +343,10 @@ answered core drawn sent size sizes rest early can =
 
 pub hung_up : HungUpLaw
 hung_up core drawn sent size rest early can =
-    let first = draws core.shape rest.engines rest.workers core drawn sent refl rest early.drawn in
+    let first = draws core.shape rest.engines rest.workers core drawn sent refl rest early.few_drawn in
     let core1 : Core = after_step core (Draw 0 (drawn + 1)) in
     let m : Message = request_message drawn size in
     let has = first.1 in
-    let run : Leads core1 (sending core1.shape m ++ withdrawing core1.shape m) (λ c. IsAtRest c (drawn + 1) sent) = cancelled_leads core.shape rest.engines rest.workers core1 drawn sent size (seat_of core 0) (seat_of core 1) has early.drawn can in
+    let run : Leads core1 (sending core1.shape m ++ withdrawing core1.shape m) (λ c. IsAtRest c (drawn + 1) sent) = cancelled_leads core.shape rest.engines rest.workers core1 drawn sent size (seat_of core 0) (seat_of core 1) has early.few_drawn can in
     then (λ c. IsAtRest c (drawn + 1) sent) core (Draw 0 (drawn + 1)) (sending core.shape m ++ withdrawing core.shape m) first.0
     (subst (λ (s : Shape). Leads core1 (sending s m ++ withdrawing s m) (λ c. IsAtRest c (drawn + 1) sent)) has.stands.shape_is run)

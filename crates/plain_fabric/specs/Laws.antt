@@ -35,8 +35,8 @@ AllCanPass (passed ∷ more) = CanPass passed × AllCanPass more
 
 -- streams and places are far from their ends
 pub record IsEarly (drawn sent : ℕ) : Type 0 where
-  pub drawn : drawn < 2 ^ 48
-  pub sent : sent ≤ most_parts * drawn
+  pub few_drawn : drawn < 2 ^ 48
+  pub few_sent : sent ≤ most_parts * drawn
 
 -- ---- the laws
 
