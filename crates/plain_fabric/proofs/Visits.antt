@@ -35,7 +35,7 @@ use Rattle.plain_fabric.proofs.Streams.{Goes, any_last, goes_first, goes_on, goe
 use Rattle.plain_fabric.specs.AtRest.{HasPassed, HasNothingOpen, IsAtRest}
 use Rattle.plain_fabric.specs.Laws.{AllFit, AnsweredLaw, FitsSegment, HungUpLaw, IsEarly}
 use Rattle.plain_fabric.specs.declared.message.Message.{Message}
-use Rattle.plain_fabric.specs.Schedule.{item_of_message, answered_steps, hung_up_steps, is_none, part_message, part_steps, request_message, sending, taking, withdrawing}
+use Rattle.plain_fabric.specs.Schedule.{item_of_message, answered_steps, hung_up_steps, part_message, part_steps, request_message, sending, taking, withdrawing}
 
 -- ---- one engine and one worker
 
@@ -312,15 +312,16 @@ module _ (shape : Shape) (engines : shape.engines ≡ 1) (workers : shape.worker
       → Leads core (part_steps shape drawn sent number sizes) (λ c. IsAtRest c (drawn + 1) (sent + length sizes))
   parts_lead drawn [] sent number core between some fit few = absurd (some refl)
   parts_lead drawn (size ∷ []) sent number core between some fit few =
-      let m : Message = part_message drawn sent number true size in
-      let run : Leads core (sending core.shape m ++ taking core.shape m) (λ c. IsAtRest c (drawn + 1) (sent + 1)) = last_leads core drawn sent number size true between (omega (arith, few)) fit.0 refl in
+      let m : Message = part_message drawn sent number (length {A = ℕ} [] == 0) size in
+      let run : Leads core (sending core.shape m ++ taking core.shape m) (λ c. IsAtRest c (drawn + 1) (sent + 1)) = last_leads core drawn sent number size (length {A = ℕ} [] == 0) between (omega (arith, few)) fit.0 refl in
       joined (λ c. IsAtRest c (drawn + 1) (sent + 1)) (λ c. IsAtRest c (drawn + 1) (sent + 1)) core (sending shape m ++ taking shape m) []
       (subst (λ (s : Shape). Leads core (sending s m ++ taking s m) (λ c. IsAtRest c (drawn + 1) (sent + 1))) between.stands.shape_is run)
       (λ c rest. done (λ k. IsAtRest k (drawn + 1) (sent + 1)) c rest)
   parts_lead drawn (size ∷ (another ∷ sizes)) sent number core between some fit few =
-      let m : Message = part_message drawn sent number false size in
+      let m : Message = part_message drawn sent number (length (another ∷ sizes) == 0) size in
+      let none : (length (another ∷ sizes) == 0) ≡ false = ne_eqb (length (another ∷ sizes)) 0 (omega arith) in
       let all : sent + 1 + length (another ∷ sizes) ≡ sent + length (size ∷ (another ∷ sizes)) = omega arith in
-      let run : Leads core (sending core.shape m ++ taking core.shape m) (Between shape drawn (sent + 1) (number + 1)) = more_leads core drawn sent number size false between (omega (arith, few)) fit.0 refl in
+      let run : Leads core (sending core.shape m ++ taking core.shape m) (Between shape drawn (sent + 1) (number + 1)) = more_leads core drawn sent number size (length (another ∷ sizes) == 0) between (omega (arith, few)) fit.0 none in
       joined (Between shape drawn (sent + 1) (number + 1)) (λ c. IsAtRest c (drawn + 1) (sent + length (size ∷ (another ∷ sizes)))) core (sending shape m ++ taking shape m) (part_steps shape drawn (sent + 1) (number + 1) (another ∷ sizes))
       (subst (λ (s : Shape). Leads core (sending s m ++ taking s m) (Between shape drawn (sent + 1) (number + 1))) between.stands.shape_is run)
       (λ c now. subst (λ (k : ℕ). Leads c (part_steps shape drawn (sent + 1) (number + 1) (another ∷ sizes)) (λ e. IsAtRest e (drawn + 1) k)) all

@@ -1,6 +1,6 @@
 -- What one thread does that plays an engine and a worker in turn: the engine has seat 0, the worker
 -- seat 1. All steps of a request are done before those of the next one.
-use Rattle.std.specs.Prelude.{ℕ, ◌+◌, ◌%◌, Bool, true, false, List, [], ◌∷◌, ◌++◌, length, map}
+use Rattle.std.specs.Prelude.{ℕ, ◌+◌, ◌%◌, ◌==◌, Bool, List, [], ◌∷◌, ◌++◌, length, map}
 use Rattle.port_message.specs.Words.{part_word_of}
 use Rattle.unit_model.specs.Holding.{first_segment, items_of}
 use Rattle.unit_model.specs.Runs.{chunks_of}
@@ -95,15 +95,11 @@ part_message drawn sent number last size = record {
   stream = drawn + 1;
 }
 
-abbrev pub is_none : List ℕ → Bool
-is_none [] = true
-is_none (size ∷ sizes) = false
-
--- the parts from this number on, by their sizes
+-- the parts from this number on, by their sizes; behind the last one none is left
 abbrev pub part_steps : Shape → ℕ → ℕ → ℕ → List ℕ → List Step
 part_steps shape drawn sent number [] = []
 part_steps shape drawn sent number (size ∷ sizes) =
-    let m = part_message drawn sent number (is_none sizes) size in
+    let m = part_message drawn sent number (length sizes == 0) size in
     (sending shape m ++ taking shape m) ++ part_steps shape drawn (sent + 1) (number + 1) sizes
 
 -- a request that is answered: the engine draws its stream, its record goes to the worker, and the
