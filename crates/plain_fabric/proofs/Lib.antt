@@ -1,3 +1,4 @@
+pub mod LeftOpen
 pub mod Lists
 pub mod Passing
 pub mod Runs

@@ -43,7 +43,7 @@ module _ (shape : Shape) (engines : shape.engines ≡ 1) (workers : shape.worker
   engine_role : (core : Core) → core.shape ≡ shape → role_of core 0 ≡ 0
   engine_role core is = ap (λ (s : Shape). role_in s 0) is ∙ rw engines refl
 
-  worker_role : (core : Core) → core.shape ≡ shape → role_of core 1 ≡ 1
+  pub worker_role : (core : Core) → core.shape ≡ shape → role_of core 1 ≡ 1
   worker_role core is = ap (λ (s : Shape). role_in s 1) is ∙ rw (engines, workers) refl
 
   engine_fills : (core : Core) → core.shape ≡ shape → Fills core 0 0
@@ -113,7 +113,7 @@ message_leads base m can may =
     joined (IsSent base m) (IsOver base m m.to) base (sending base.shape m) (taking base.shape m) (sending_leads base m can may) (taking_leads base m can)
 
 module _ (shape : Shape) (engines : shape.engines ≡ 1) (workers : shape.workers ≡ 1) where
-  seats_are_two : (core : Core) → IsSound core → core.shape ≡ shape → core.seats ≡ seat_of core 0 ∷ seat_of core 1 ∷ []
+  pub seats_are_two : (core : Core) → IsSound core → core.shape ≡ shape → core.seats ≡ seat_of core 0 ∷ seat_of core 1 ∷ []
   seats_are_two core sound is =
       let count : length core.seats ≡ core.shape.engines + core.shape.workers = sound.held.shape.seats in
       two_of core.seats no_seat (omega (arith, count, ap (λ (s : Shape). s.engines) is, ap (λ (s : Shape). s.workers) is, engines, workers))

@@ -1,9 +1,10 @@
 -- The schedules are legal runs of the machine, and lead from rest to rest.
-use Rattle.std.specs.Prelude.{ℕ, ◌+◌, ◌*◌, ◌^◌, ◌≡◌, ◌≢◌, ◌≤◌, ◌<◌, List, [], ◌∷◌, length}
+use Rattle.std.specs.Prelude.{ℕ, ◌+◌, ◌*◌, ◌^◌, ◌≡◌, ◌≢◌, ◌≤◌, ◌<◌, false, List, [], ◌∷◌, length}
 use Rattle.unit_model.specs.Limits.{chunk_bytes, segment_chunks}
 use Rattle.unit_model.specs.Opening.{opened_core}
 use Rattle.unit_model.specs.Running.{AllEnabled, after_steps}
 use Rattle.unit_model.specs.Shapes.{IsValid}
+use Rattle.unit_model.specs.StreamAccount.{is_left_open}
 use Rattle.unit_model.specs.declared.machine.Core.{Core}
 use Rattle.unit_model.specs.declared.machine.Step.{Step}
 use Rattle.unit_model.specs.declared.shape.Shape.{Shape}
@@ -79,3 +80,10 @@ TraceLaw = (shape : Shape) (requests : List Passed) → IsPlain shape → AllCan
     → length requests ≤ 2 ^ 48
     → LeadsToRest (opened_core shape) (trace_of shape requests)
     (length requests) (parts_of_all requests)
+
+-- and no stream is left open there
+abbrev pub NoneLeftOpen : Type 0
+NoneLeftOpen = (shape : Shape) (requests : List Passed) → IsPlain shape → AllCanPass requests
+    → length requests ≤ 2 ^ 48
+    → (stream : ℕ)
+    → is_left_open (after_steps (opened_core shape) (trace_of shape requests)) stream ≡ false

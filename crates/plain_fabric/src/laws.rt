@@ -1,5 +1,5 @@
 //! Laws of the schedules. Each function does nothing: its contract is the law.
-ghost use Rattle.plain_fabric.specs.Laws.{AnsweredLaw, HungUpLaw, OpenedLaw, TraceLaw};
+ghost use Rattle.plain_fabric.specs.Laws.{AnsweredLaw, HungUpLaw, NoneLeftOpen, OpenedLaw, TraceLaw};
 
 /// The core of a valid shape with one engine and one worker begins at rest.
 pub fn a_plain_core_begins_at_rest()
@@ -22,4 +22,9 @@ pub fn a_request_is_cancelled_from_rest_to_rest()
 /// stream is open.
 pub fn any_trace_is_legal()
     ensures { TraceLaw }
+{}
+
+/// Behind it each stream that was drawn was accepted or cancelled.
+pub fn no_stream_is_left_open()
+    ensures { NoneLeftOpen }
 {}
