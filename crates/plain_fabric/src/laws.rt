@@ -18,13 +18,13 @@ pub fn a_request_is_cancelled_from_rest_to_rest()
 {}
 
 /// The trace of any requests is a legal run of the machine from its opened core, and leads to rest:
-/// all chunks are free, no item has a tag, lines are empty, each item is in its free list, and no
-/// stream is open.
+/// all chunks are free, no item has a tag, lines are empty, each item is in its free list, and the
+/// engine has nothing open.
 pub fn any_trace_is_legal()
     ensures { TraceLaw }
 {}
 
-/// Behind it each stream that was drawn was accepted or cancelled.
+/// Behind it no stream is left open.
 pub fn no_stream_is_left_open()
     ensures { NoneLeftOpen }
 {}
