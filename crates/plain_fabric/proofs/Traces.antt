@@ -107,4 +107,10 @@ all_lead shape (passed ∷ more) core drawn sent is rest few room can =
     (all_lead shape more c (drawn + 1) (sent + parts_in passed) now.1 now.0 (omega (arith, few, parts_few passed can.0)) (omega (arith, room)) can.1)))
 
 pub traced : TraceLaw
-traced shape requests plain can room = all_lead shape requests (opened_core shape) 0 0 refl (opened shape plain) (omega arith) (omega (arith, room)) can
+traced shape requests plain can room =
+    let all : 0 + length requests ≡ length requests = omega arith in
+    let parts : 0 + parts_of_all requests ≡ parts_of_all requests = omega arith in
+    let run : Leads (opened_core shape) (trace_from shape 0 0 requests) (λ c. IsAtRest c (0 + length requests) (0 + parts_of_all requests)) =
+    all_lead shape requests (opened_core shape) 0 0 refl (opened shape plain) (omega arith) (omega (arith, room)) can in
+    subst (λ (k : ℕ). Leads (opened_core shape) (trace_from shape 0 0 requests) (λ c. IsAtRest c k (parts_of_all requests))) all
+    (subst (λ (k : ℕ). Leads (opened_core shape) (trace_from shape 0 0 requests) (λ c. IsAtRest c (0 + length requests) k)) parts run)
