@@ -1,5 +1,5 @@
-//! Requests from an engine to a worker and back on one thread, through the words, chunks and queues
-//! of a fabric.
+//! What one thread does that plays an engine and a worker in turn: the steps of each request, from
+//! the engine to the worker and back.
 #![tactic(auto)]
 
 mod laws;
