@@ -1,0 +1,3 @@
+pub mod AtRest
+pub mod Laws
+pub mod Schedule

@@ -1,0 +1,17 @@
+//! What one thread does that plays an engine and a worker in turn: the steps of each request, from
+//! the engine to the worker and back.
+#![tactic(auto)]
+
+mod laws;
+mod message;
+mod schedule;
+
+pub use laws::{
+    a_plain_core_begins_at_rest, a_request_is_answered_from_rest_to_rest,
+    a_request_is_cancelled_from_rest_to_rest, any_trace_is_legal, no_stream_is_left_open,
+};
+pub use message::Message;
+pub use schedule::{answered_steps, hung_up_steps};
+
+#[cfg(test)]
+mod tests;
