@@ -1,0 +1,5 @@
+pub mod Views
+pub mod Keyed
+pub mod Parts
+pub mod Contents
+pub mod Rule
