@@ -3,3 +3,5 @@ pub mod Moving
 pub mod RunLists
 pub mod EmptySlots
 pub mod Contents
+pub mod RunMoving
+pub mod FreeSlots

@@ -106,7 +106,7 @@ module _ {S : Type 0} where
       further (inl lt) = inl (omega (arith, lt))
       further (inr le) = inr (omega (arith, le))
 
-  run_numbers : (first : ℕ) (values : List S) → numbers (run_of first values) ≡ range_with_len first (length values)
+  pub run_numbers : (first : ℕ) (values : List S) → numbers (run_of first values) ≡ range_with_len first (length values)
   run_numbers first [] = refl
   run_numbers first (x ∷ xs) = ap (λ l. first ∷ l) (run_numbers (first + 1) xs)
 

@@ -3,3 +3,5 @@ pub mod Acts
 pub mod RunSlots
 pub mod EmptySlots
 pub mod SlotLaws
+pub mod RunLaws
+pub mod FreeSlots

@@ -1,4 +1,6 @@
 //! Laws on acts and on carried slots. Each function does nothing: its contract is the law.
+ghost use Rattle.carried_slots.specs.FreeSlots.{FreeBecomeLaw, FreeFirstLaw, FreeStayLaw, FreeTakenLaw, SlotGainedLaw, SlotGivenLaw};
+ghost use Rattle.carried_slots.specs.RunLaws.{GatheringLaw, RunGivenLaw};
 ghost use Rattle.carried_slots.specs.SlotLaws.{BecomesLaw, BroughtLaw, ContentLaw, EmptyGoneLaw, KnownLaw, RunGoneLaw, RunTakenLaw, SameValuesLaw, TakenLaw, WithoutLaw};
 
 /// What a seat carries becomes any of its slots, in any order: the others go home with their values, and no other slot of the
@@ -50,4 +52,34 @@ pub fn a_slot_is_known<T>()
 /// The slots of a run have one list of values, so that what is read in order is what was filled in order.
 pub fn slots_have_one_list_of_values<T>()
     ensures { SameValuesLaw T }
+{}
+
+/// Slots of a run that are at home with values are one list of values, and come in front of what a seat carries by one act: so
+/// one exchange on a tag takes all slots of an armed run.
+pub fn a_run_is_gathered<T>()
+    ensures { GatheringLaw T }
+{}
+
+/// The slots of a run go home with their values by one act: so one store of a tag gives all slots of a run.
+pub fn a_run_goes_home<T>()
+    ensures { RunGivenLaw T }
+{}
+
+/// The slots of free chunks are at home and empty: at first, where no chunk becomes free and none of these slots moves, and where
+/// a seat takes or gives slots of other chunks.
+pub fn free_slots_stay<T>()
+    ensures first { FreeFirstLaw T }
+    ensures stay { FreeStayLaw T }
+    ensures turned { FreeBecomeLaw T }
+    ensures taken { FreeTakenLaw T }
+{}
+
+/// A free chunk is gained with its empty slot, and no other slot moves.
+pub fn a_chunk_comes_with_its_slot<T>()
+    ensures { SlotGainedLaw T }
+{}
+
+/// A chunk is given back with its empty slot, and no other slot moves.
+pub fn a_chunk_goes_with_its_slot<T>()
+    ensures { SlotGivenLaw T }
 {}

@@ -1,0 +1,5 @@
+use Rattle.carried_slots.proofs.FreeSlots.{slot_given}
+use Rattle.carried_slots.proofs.laws.a_chunk_goes_with_its_slot.Goals as goal
+
+pub returns : goal.returns
+returns g c = slot_given
