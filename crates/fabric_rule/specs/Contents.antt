@@ -1,13 +1,9 @@
 -- Where slots are and what they hold: the slot of a free chunk is at home and empty, those of an armed item's chunks are at home
 -- with the parcels of its message, and those of a seat's chunks are with that seat.
-use Rattle.std.specs.Prelude.{ℕ, ◌≡◌, ◌≢◌, ◌<◌, true, List, [], ◌∷◌, map, length, Option, Some, None}
-use mathlib.Core.Option.{some}
-use lib.ListN.{get_elem?}
+use Rattle.std.specs.Prelude.{ℕ, ◌≡◌, ◌≢◌, List, length, Option}
 use Rattle.atomic_table.specs.Table.{Me}
-use Rattle.carried_slots.specs.Acts.{AtHome}
+use Rattle.carried_slots.specs.RunLaws.{HaveValuesAtHome}
 use Rattle.carried_slots.specs.Carried.{numbers}
-use Rattle.carried_slots.specs.RunSlots.{run_of}
-use Rattle.chunk_map.specs.Words.{is_free}
 use Rattle.request_context.specs.Collecting.{IsPart}
 use Rattle.request_context.specs.Parcels.{joined}
 use Rattle.request_context.specs.Record.{HasRecord, request_record}
@@ -20,25 +16,12 @@ use Rattle.unit_model.specs.Runs.{chunks_for}
 use Rattle.unit_model.specs.Weights.{weigh}
 use Rattle.unit_model.specs.declared.machine.Core.{Core}
 use Rattle.unit_model.specs.declared.machine.Item.{Item}
-use Rattle.unit_model.specs.declared.runs.Run.{Run}
 use Rattle.unit_types.specs.declared.message.Reply.{Reply}
 use Rattle.unit_types.specs.declared.message.Request.{Request}
 use Rattle.fabric_words.specs.Places.{HasItem}
 use Rattle.fabric_rule.specs.declared.view.FabricView.{FabricView}
 
--- ---- free chunks
-
--- The slot of a chunk whose bit is set is at home and empty.
-abbrev pub FreeSlots : {T : Type 0} → ℕ → (ℕ → ℕ) → List (mathlib.Core.Option.Option (Option T)) → Type 0
-FreeSlots chunks word homes =
-    (chunk : ℕ) → chunk < chunks → is_free word chunk ≡ true
-    → get_elem? homes chunk ≡ some (some None)
-
 -- ---- the chunks of messages
-
--- the slots of a run, with a value each
-abbrev pub slots_with : {T : Type 0} → Run → List T → List (ℕ × Option T)
-slots_with run values = run_of (chunk_number run.segment run.chunk) (map Some values)
 
 -- a piece of a request record
 abbrev pub IsAsk : {H : Type 0} → Parcel H → Type 0
@@ -71,7 +54,7 @@ pub data Carries {H : Type 0} (reply_of : List ℕ → Request → Reply) (recor
 pub record IsFilled {H : Type 0} (reply_of : List ℕ → Request → Reply) (records : ℕ → List ℕ) (homes : List (mathlib.Core.Option.Option (Option (Parcel H)))) (queue : ℕ) (item : Item) : Type 0 where
   pub parcels : List (Parcel H)
   pub long : length parcels ≡ chunks_for item.run.size
-  pub home : AtHome homes (slots_with item.run parcels)
+  pub home : HaveValuesAtHome (chunk_number item.run.segment item.run.chunk) parcels homes
   pub carries : Carries reply_of records queue item.tag item.part parcels
 
 -- so of each armed item

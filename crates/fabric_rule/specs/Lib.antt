@@ -1,5 +1,7 @@
-pub mod Views
+pub mod Contents
+pub mod FrameLaws
 pub mod Keyed
 pub mod Parts
-pub mod Contents
 pub mod Rule
+pub mod Steps
+pub mod Views

@@ -10,24 +10,26 @@ use Rattle.app_queue.specs.declared.side.Side.TheVariants.{Free}
 use Rattle.unit_model.specs.Core.{item_of, owner_of, role_of, seat_of}
 use Rattle.unit_model.specs.Holding.{items_of}
 use Rattle.unit_model.specs.Limits.{segment_chunks}
-use Rattle.unit_model.specs.PartCounts.{parts_by_seat, sent}
+use Rattle.unit_model.specs.PartCounts.{of_stream}
 use Rattle.unit_model.specs.PartOrder.{Each}
 use Rattle.unit_model.specs.Runs.{HasNoRun, chunks_for}
-use Rattle.unit_model.specs.StreamCounts.{by_all, by_seat, drawn, posted, cancelled, abandoned, taken, closed}
-use Rattle.unit_model.specs.Weights.{weigh, below}
+use Rattle.unit_model.specs.StreamCounts.{by_all, by_seat, drawn, posted, taken}
+use Rattle.unit_model.specs.Weights.{weigh, below, times}
 use Rattle.unit_model.specs.declared.machine.Core.{Core}
 use Rattle.unit_model.specs.declared.machine.Owner.{Owner}
 use Rattle.unit_model.specs.declared.machine.Owner.TheVariants as owner
+use Rattle.unit_model.specs.declared.machine.Seat.{Seat as SeatLists}
 use Rattle.unit_model.specs.declared.machine.Whereabouts.{Whereabouts}
 use Rattle.unit_model.specs.declared.machine.Whereabouts.TheVariants.{InFreeList, InLine, WithSeat}
 use Rattle.unit_model.specs.declared.shape.Shape.{Shape}
 use Rattle.fabric_words.specs.Places.{queues_of, segments_of}
 use Rattle.fabric_rule.specs.Keyed.{Keyed}
-use Rattle.fabric_rule.specs.Views.{hand_at, chunks_at, held_at, open_noted, posts_at, posts_of, lists_at, opens_at, works_at, work_at, work_weight, popped_at}
+use Rattle.fabric_rule.specs.Views.{hand_at, chunks_at, held_at, open_noted, posts_at, posts_of, lists_at, opens_at, works_at, draw_at, draw_weight, take_at, take_weight, popped_at}
 use Rattle.fabric_rule.specs.declared.cause.Cause.{Cause}
 use Rattle.fabric_rule.specs.declared.cause.Cause.TheVariants.{NoChunks, NoItem, Worn}
 use Rattle.fabric_rule.specs.declared.cause.Refusal.{Refusal}
 use Rattle.fabric_rule.specs.declared.event.Segments.TheVariants.{Out, Back}
+use Rattle.fabric_rule.specs.declared.view.Arming.{Arming}
 use Rattle.fabric_rule.specs.declared.view.Care.{Care}
 use Rattle.fabric_rule.specs.declared.view.FabricView.{FabricView}
 use Rattle.fabric_rule.specs.declared.view.KeptItem.{KeptItem}
@@ -136,51 +138,56 @@ ListsShown core popped views = Keyed lists_at (ShowsLists core popped) views
 
 -- ---- works
 
--- a stream that the seat drew and hasn't posted
-pub record KnowsDrawn (core : Core) (seat stream : ℕ) : Type 0 where
-  pub drew : 1 ≤ by_seat drawn core seat stream
-  pub unposted : by_seat posted core seat stream ≡ 0
+-- of the lists of the seat: a stream that it drew and hasn't posted
+pub record KnowsDrawn (lists : SeatLists) (stream : ℕ) : Type 0 where
+  pub drew : 1 ≤ times stream lists.drawn
+  pub unposted : times stream lists.posted ≡ 0
 
--- a stream that the seat posted, and neither cancelled nor abandoned; its only arm is of this item, and the view has it
-pub record KnowsPosted (core : Core) (v : FabricView) (stream item : ℕ) : Type 0 where
-  pub was_posted : 1 ≤ by_seat posted core v.seat stream
-  pub uncancelled : by_seat cancelled core v.seat stream ≡ 0
-  pub unabandoned : by_seat abandoned core v.seat stream ≡ 0
-  pub arm : 1 ≤ posts_of stream item v
+-- a stream that it posted, and neither cancelled nor abandoned; its only arm is of this item, and the view has it
+pub record KnowsPosted (lists : SeatLists) (arms : List Arming) (stream item : ℕ) : Type 0 where
+  pub was_posted : 1 ≤ times stream lists.posted
+  pub uncancelled : times stream lists.cancelled ≡ 0
+  pub unabandoned : times stream lists.abandoned ≡ 0
+  pub arm : 1 ≤ posts_of stream item arms
 
--- a stream that the seat took and didn't close, with how many of its parts the seat sent, none of them the last, and none of them
--- armed and not pushed
-pub record KnowsTaken (core : Core) (armed : ℕ → List ℕ) (seat stream parts : ℕ) : Type 0 where
-  pub took : 1 ≤ by_seat taken core seat stream
-  pub unclosed : by_seat closed core seat stream ≡ 0
-  pub parts_out : parts_by_seat sent core seat stream ≡ parts
-  pub unfinished : list_any (λ part. part.stream == stream && part.last) (seat_of core seat).sent ≡ false
+-- a stream that it took and didn't close, with how many of its parts it sent, none of them the last, and none of them armed and
+-- not pushed
+pub record KnowsTaken (lists : SeatLists) (armed : ℕ → List ℕ) (stream parts : ℕ) : Type 0 where
+  pub took : 1 ≤ times stream lists.taken
+  pub unclosed : times stream lists.closed ≡ 0
+  pub parts_out : weigh (of_stream stream) lists.sent ≡ parts
+  pub unfinished : list_any (λ part. part.stream == stream && part.last) lists.sent ≡ false
   pub nothing : armed stream ≡ []
 
--- a stream that the seat took and didn't close, of whose part it armed this item of the poster's queue, and didn't push it
-pub record KnowsSending (core : Core) (armed : ℕ → List ℕ) (seat stream queue item : ℕ) : Type 0 where
-  pub took : 1 ≤ by_seat taken core seat stream
-  pub unclosed : by_seat closed core seat stream ≡ 0
+-- a stream that it took and didn't close, of whose part it armed this item of its poster's queue, and didn't push it; `poster` has
+-- the lists of that engine
+pub record KnowsSending (lists poster : SeatLists) (armed : ℕ → List ℕ) (stream queue item : ℕ) : Type 0 where
+  pub took : 1 ≤ times stream lists.taken
+  pub unclosed : times stream lists.closed ≡ 0
   pub back : queue ≢ 0
-  pub to : 1 ≤ by_seat posted core (queue - 1) stream
+  pub to : 1 ≤ times stream poster.posted
   pub one : armed stream ≡ item ∷ []
 
-abbrev pub KnowsWork : Core → (ℕ → List ℕ) → FabricView → Work → Type 0
-KnowsWork core armed v (Drawn stream) = KnowsDrawn core v.seat stream
-KnowsWork core armed v (Posted stream item) = KnowsPosted core v stream item
-KnowsWork core armed v (Taken stream parts) = KnowsTaken core armed v.seat stream parts
-KnowsWork core armed v (Sending stream queue item) =
-    KnowsSending core armed v.seat stream queue item
-KnowsWork core armed v Holding = Unit {0}
+-- what a seat of this number, which made these arms, knows of a work
+abbrev pub KnowsWork : Core → (ℕ → List ℕ) → ℕ → List Arming → Work → Type 0
+KnowsWork core armed seat arms (Drawn stream) = KnowsDrawn (seat_of core seat) stream
+KnowsWork core armed seat arms (Posted stream item) =
+    KnowsPosted (seat_of core seat) arms stream item
+KnowsWork core armed seat arms (Taken stream parts) =
+    KnowsTaken (seat_of core seat) armed stream parts
+KnowsWork core armed seat arms (Sending stream queue item) =
+    KnowsSending (seat_of core seat) (seat_of core (queue - 1)) armed stream queue item
+KnowsWork core armed seat arms Holding = Unit {0}
 
--- of the works with a stream
-abbrev pub ShowsWorks : Core → (ℕ → List ℕ) → ℕ → FabricView → Type 0
-ShowsWorks core armed stream v =
-    Each (λ (w : Work). 1 ≤ work_weight stream w → KnowsWork core armed v w) v.works
+-- of the works that weigh by this weight
+abbrev pub ShowsWorks : (ℕ → Work → ℕ) → Core → (ℕ → List ℕ) → ℕ → FabricView → Type 0
+ShowsWorks weight core armed stream v =
+    Each (λ (w : Work). 1 ≤ weight stream w → KnowsWork core armed v.seat v.arms w) v.works
 
--- The works with one stream are with one view, which knows of them what is so.
-abbrev pub WorksShown : Core → (ℕ → List ℕ) → List FabricView → Type 0
-WorksShown core armed views = Keyed work_at (ShowsWorks core armed) views
+-- The work of who drew or posted a stream is with one view, and so is that of who took it. Each knows of it what is so.
+pub record WorksShown (core : Core) (armed : ℕ → List ℕ) (views : List FabricView) : Type 0 where
+  pub draws : Keyed draw_at (ShowsWorks draw_weight core armed) views
+  pub takes : Keyed take_at (ShowsWorks take_weight core armed) views
 
 -- Main views count the open works: for each number, those of all views of this number.
 abbrev pub WorksCounted : List FabricView → Type 0
@@ -194,14 +201,14 @@ pub record IsAtRest (shape : Shape) (v : FabricView) : Type 0 where
 abbrev pub IsIdle : Shape → FabricView → Type 0
 IsIdle shape v = v.works ≡ [] → IsAtRest shape v
 
--- a posted stream that is neither cancelled nor abandoned, and whose last part its poster hasn't received
-pub record IsOpen (core : Core) (engine stream : ℕ) : Type 0 where
-  pub was_posted : 1 ≤ by_seat posted core engine stream
-  pub uncancelled : by_seat cancelled core engine stream ≡ 0
-  pub unabandoned : by_seat abandoned core engine stream ≡ 0
-  pub unreceived : list_any (λ part. part.stream == stream && part.last) (seat_of core engine).received ≡ false
+-- of an engine's lists: a posted stream that is neither cancelled nor abandoned, and whose last part it hasn't received
+pub record IsOpen (lists : SeatLists) (stream : ℕ) : Type 0 where
+  pub was_posted : 1 ≤ times stream lists.posted
+  pub uncancelled : times stream lists.cancelled ≡ 0
+  pub unabandoned : times stream lists.abandoned ≡ 0
+  pub unreceived : list_any (λ part. part.stream == stream && part.last) lists.received ≡ false
 
--- Each of those is in one view's works.
+-- Each of those is in one view's works, that of its poster.
 abbrev pub PostsInWork : Core → List FabricView → Type 0
 PostsInWork core views =
-    (engine stream : ℕ) → IsOpen core engine stream → 1 ≤ weigh (work_at stream) views
+    (engine stream : ℕ) → IsOpen (seat_of core engine) stream → 1 ≤ weigh (draw_at stream) views

@@ -17,7 +17,8 @@ use Rattle.fabric_words.specs.Offsets.{width_of, word_in}
 use Rattle.fabric_words.specs.Places.{map_of, segments_of}
 use Rattle.fabric_words.specs.Shown.{Shows}
 use Rattle.fabric_words.specs.declared.place.Place.{Place}
-use Rattle.fabric_rule.specs.Contents.{ArmedFilled, FreeSlots}
+use Rattle.carried_slots.specs.FreeSlots.{FreeSlots}
+use Rattle.fabric_rule.specs.Contents.{ArmedFilled}
 use Rattle.fabric_rule.specs.Parts.{OfEach, ItemsHeld, ChunksHeld, SeatsThere, OpensNoted, PostsArmed, RecordsKnown, KeptAreWorn, ListsShown, WorksShown, WorksCounted, IsIdle, PostsInWork}
 use Rattle.fabric_rule.specs.Views.{queues_in, ring_in, tag_in, run_in, part_in, log_at, held_at, got_at, arms_at, words_in, tag_said, tag_kept, run_said, part_said}
 use Rattle.fabric_rule.specs.declared.view.FabricView.{FabricView}

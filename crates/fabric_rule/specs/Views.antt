@@ -142,7 +142,7 @@ hand_at queue f v = held_at queue (f v.seat) v + kept_at queue f v
 -- 1 where the item was got from the free ring at this place
 abbrev pub is_got : ℕ → ℕ → ℕ → HeldItem → ℕ
 is_got queue item place h =
-    one_if (h.queue == queue && (is_side h.side Free && (h.item == item && h.place == place)))
+    one_if (is_side h.side Free && (h.queue == queue && (h.item == item && h.place == place)))
 
 -- the view has the item from the free ring, at this place, and hasn't armed it since
 abbrev pub got_at : ℕ → FabricView → ℕ → ℕ → Type 0
@@ -177,9 +177,9 @@ arms_at queue v = arms_among queue v.arms
 abbrev pub posts_at : ℕ → FabricView → ℕ
 posts_at stream v = weigh (λ (a : Arm). is_number stream a.stream) (arms_at 0 v)
 
-abbrev pub posts_of : ℕ → ℕ → FabricView → ℕ
-posts_of stream item v =
-    weigh (λ (a : Arm). one_if (a.stream == stream && a.item == item)) (arms_at 0 v)
+abbrev pub posts_of : ℕ → ℕ → List Arming → ℕ
+posts_of stream item arms =
+    weigh (λ (a : Arm). one_if (a.stream == stream && a.item == item)) (arms_among 0 arms)
 
 -- ---- lists and works
 
@@ -195,16 +195,26 @@ opens_at number v = weigh (λ (c : Care). cond (c.seat == number) c.open 0) v.ca
 abbrev pub works_at : ℕ → FabricView → ℕ
 works_at number v = cond (v.seat == number) (length v.works) 0
 
--- 1 for a work with this stream
-abbrev pub work_weight : ℕ → Work → ℕ
-work_weight stream (Drawn s) = is_number stream s
-work_weight stream (Posted s item) = is_number stream s
-work_weight stream (Taken s sent) = is_number stream s
-work_weight stream (Sending s queue item) = is_number stream s
-work_weight stream Holding = 0
+-- 1 for a work of who drew or posted this stream, and of who took it
+abbrev pub draw_weight : ℕ → Work → ℕ
+draw_weight stream (Drawn s) = is_number stream s
+draw_weight stream (Posted s item) = is_number stream s
+draw_weight stream (Taken s sent) = 0
+draw_weight stream (Sending s queue item) = 0
+draw_weight stream Holding = 0
 
-abbrev pub work_at : ℕ → FabricView → ℕ
-work_at stream v = weigh (work_weight stream) v.works
+abbrev pub take_weight : ℕ → Work → ℕ
+take_weight stream (Drawn s) = 0
+take_weight stream (Posted s item) = 0
+take_weight stream (Taken s sent) = is_number stream s
+take_weight stream (Sending s queue item) = is_number stream s
+take_weight stream Holding = 0
+
+abbrev pub draw_at : ℕ → FabricView → ℕ
+draw_at stream v = weigh (draw_weight stream) v.works
+
+abbrev pub take_at : ℕ → FabricView → ℕ
+take_at stream v = weigh (take_weight stream) v.works
 
 -- the queue whose line a seat of this number empties
 abbrev pub emptied_by : Shape → ℕ → ℕ
