@@ -440,7 +440,7 @@ module _ {H : Type 0} (reply_of : List ℕ → Request → Reply) (shape : Shape
         records_known = of_each (RecordsKnown core holds.records) (RecordsKnown core' holds.records) s.views id u (records_stay core core' holds.records v u same refl (old.records_known id v at)) (λ y. records_stay core core' holds.records y y same refl) old.records_known;
         lists = lists';
         works = works_stay core core' holds.armed s.views id v u at same refl refl refl old.works;
-        counted = counted_stay s.views id v u at (λ k. omega (arith, ap (weigh (λ (d : Care). cond (d.seat == k) d.open 0)) main.only)) old.counted;
+        counted = counted_stay s.views id v u at (λ k. omega (arith, ap (weigh (λ (d : Care). cond (d.seat == k) d.opened_works 0)) main.only)) old.counted;
         idle = of_each (IsIdle shape) (IsIdle shape) s.views id u idle' (λ y is. is) old.idle;
         in_work = in_work_stay core core' s.views id v u at same refl old.in_work;
         kept = of_each (KeptAreWorn shape (ring_in word)) (KeptAreWorn shape (ring_in word')) s.views id u (kept_stay shape (ring_in word) (ring_in word') v u tails refl (old.kept id v at)) (λ y. kept_stay shape (ring_in word) (ring_in word') y y tails refl) old.kept;

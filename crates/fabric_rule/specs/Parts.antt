@@ -85,7 +85,7 @@ PostsArmed core views = (stream : ℕ) → weigh (posts_at stream) views ≡ by_
 
 -- a record that a view has is that of its stream, which was posted
 pub record IsPosting (core : Core) (records : ℕ → List ℕ) (p : Posting) : Type 0 where
-  pub same : records p.stream ≡ p.record
+  pub same : records p.stream ≡ p.bytes
   pub was : 1 ≤ by_all posted core p.stream
 
 abbrev pub RecordsKnown : Core → (ℕ → List ℕ) → FabricView → Type 0

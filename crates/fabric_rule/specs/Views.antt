@@ -189,7 +189,7 @@ lists_at number v = weigh (λ (c : Care). is_number number c.seat) v.care
 
 -- how many open works its lists count for this number
 abbrev pub opens_at : ℕ → FabricView → ℕ
-opens_at number v = weigh (λ (c : Care). cond (c.seat == number) c.open 0) v.care
+opens_at number v = weigh (λ (c : Care). cond (c.seat == number) c.opened_works 0) v.care
 
 -- and how many works of this number it has
 abbrev pub works_at : ℕ → FabricView → ℕ

@@ -36,7 +36,7 @@ pub struct Arming {
 /// The record under which a stream was posted.
 pub struct Posting {
     pub stream: u64,
-    pub record: LinkedList<u8>,
+    pub bytes: LinkedList<u8>,
 }
 
 /// What a seat has in hand, of which one of its calls is still to come, with what it knows of it.
@@ -59,7 +59,7 @@ pub struct Care {
     pub seat: u32,
     pub lists: SeatLists,
     pub refusals: LinkedList<Refusal>,
-    pub open: u64,
+    pub opened_works: u64,
     pub popped: LinkedList<u32>,
 }
 
