@@ -2,5 +2,8 @@ pub mod Contents
 pub mod Frames
 pub mod KeyedSteps
 pub mod ListFrames
+pub mod Logs
+pub mod LookSteps
 pub mod PopSteps
+pub mod Popping
 pub mod Sums

@@ -1,7 +1,9 @@
 pub mod Contents
 pub mod FrameLaws
 pub mod Keyed
+pub mod Opening
 pub mod Parts
 pub mod Rule
 pub mod Steps
+pub mod Told
 pub mod Views

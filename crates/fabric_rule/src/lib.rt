@@ -4,8 +4,12 @@
 
 mod cause;
 mod event;
+mod laws;
+mod table;
 mod view;
 
 pub use cause::{Cause, Refusal};
 pub use event::{FabricEvent, Segments};
+pub use laws::{lists_and_works_stay, what_is_held_is_shown};
+pub use table::{FabricRule, FabricTable, Tells};
 pub use view::{Arming, Care, FabricView, HeldItem, KeptItem, Posting, Work};
