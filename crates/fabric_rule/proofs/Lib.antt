@@ -4,6 +4,8 @@ pub mod KeyedSteps
 pub mod ListFrames
 pub mod Logs
 pub mod LookSteps
+pub mod Noting
+pub mod Passing
 pub mod PopSteps
 pub mod Popping
 pub mod Sums

@@ -1,6 +1,6 @@
 -- What a step leaves of lists and works, where no seat's lists change.
-use Rattle.std.proofs.Common.{ℕ, ◌+◌, ◌-◌, ◌/◌, ◌≡◌, ◌≢◌, ◌≤◌, ◌<◌, ◌⊎◌, inl, inr, ⊎_elim, cond, ◌==◌, List, [], ◌∷◌, set, refl, sym, ap, ◌∙◌, subst, arith, get_or}
-use mathlib.Core.Option.{some}
+use Rattle.std.proofs.Common.{ℕ, zero, suc, ◌+◌, ◌-◌, ◌/◌, ◌≡◌, ◌≢◌, ◌≤◌, ◌<◌, ◌⊎◌, inl, inr, ⊎_elim, cond, ◌==◌, List, [], ◌∷◌, ◌++◌, set, refl, sym, ap, ◌∙◌, subst, arith, get_or}
+use mathlib.Core.Option.{some, some-injective}
 use lib.ListN.{get_elem?}
 use Rattle.unit_model.specs.Core.{no_seat, role_of, seat_of}
 use Rattle.unit_model.specs.PartOrder.{Each}
@@ -11,9 +11,10 @@ use Rattle.unit_model.specs.declared.machine.Core.{Core}
 use Rattle.unit_model.specs.declared.machine.Seat.{Seat as SeatLists}
 use Rattle.unit_model.specs.declared.shape.Shape.{Shape}
 use Rattle.unit_model.proofs.Views.{sum_set}
-use Rattle.fabric_rule.specs.FrameLaws.{SameLists, PostsStayLaw, RecordsStayLaw, ListsStayLaw, WorksStayLaw, CountedStayLaw, InWorkStayLaw}
+use Rattle.fabric_words.specs.Places.{HasItem}
+use Rattle.fabric_rule.specs.FrameLaws.{SameLists, PostsStayLaw, StreamsStayLaw, RecordsStayLaw, ListsStayLaw, ListsThereLaw, WorksStayLaw, CountedStayLaw, InWorkStayLaw}
 use Rattle.fabric_rule.specs.Parts.{IsPosting, IsOwn, IsCause, IsRefused, IsInCare, ShowsLists, KnowsDrawn, KnowsPosted, KnowsTaken, KnowsSending, KnowsWork, ShowsWorks, IsOpen, filled_items}
-use Rattle.fabric_rule.specs.Views.{arms_among, posts_at, lists_at, opens_at, works_at, draw_at, draw_weight, take_at, take_weight}
+use Rattle.fabric_rule.specs.Views.{all_arms, arms_among, latest_arm, stream_of_arm, posts_at, lists_at, opens_at, works_at, draw_at, draw_weight, take_at, take_weight}
 use Rattle.fabric_rule.specs.declared.cause.Cause.{Cause}
 use Rattle.fabric_rule.specs.declared.cause.Cause.TheVariants.{NoChunks, NoItem, Worn}
 use Rattle.fabric_rule.specs.declared.cause.Refusal.{Refusal}
@@ -128,3 +129,19 @@ pub in_work_stay : InWorkStayLaw
 in_work_stay core core' views id v u at same works old engine stream is_open =
     let before : IsOpen (seat_of core engine) stream = subst (λ (l : SeatLists). IsOpen l stream) (same_seat core core' same engine) is_open in
     omega (arith, old engine stream before, sum_stays (draw_at stream) views id v u at (ap (weigh (draw_weight stream)) works))
+
+pub lists_there : ListsThereLaw
+lists_there core core' views id v u at shape same old number lt =
+    let lt_old : number < core.shape.engines + core.shape.workers = subst (λ (s : Shape). number < s.engines + s.workers) shape lt in
+    omega (arith, old number lt_old, sum_stays (lists_at number) views id v u at (same number))
+
+-- the arms of all views, where those of one view are the same
+same_arms : (views : List FabricView) (id : ℕ) (v u : FabricView) → get_elem? views id ≡ some v → u.arms ≡ v.arms → all_arms (set views id u) ≡ all_arms views
+same_arms [] id v u at same = refl
+same_arms (x ∷ xs) zero v u at same = ap (λ (l : List Arming). l ++ all_arms xs) (same ∙ sym (ap (λ (y : FabricView). y.arms) (some-injective x v at)))
+same_arms (x ∷ xs) (suc id) v u at same = ap (λ (l : List Arming). x.arms ++ l) (same_arms xs id v u at same)
+
+pub streams_stay : StreamsStayLaw
+streams_stay core core' views id v u at shape items arms old queue item there =
+    items queue item ∙ old queue item (subst (λ (s : Shape). HasItem s queue item) shape there)
+    ∙ sym (ap (λ (l : List Arming). stream_of_arm (latest_arm queue item l)) (same_arms views id v u at arms))

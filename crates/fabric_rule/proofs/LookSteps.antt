@@ -36,7 +36,7 @@ use Rattle.fabric_rule.specs.Views.{arms_at, chunks_at, got_at, hand_at, held_at
 use Rattle.fabric_rule.specs.declared.event.FabricEvent.TheVariants.{AtRing}
 use Rattle.fabric_rule.specs.declared.view.FabricView.{FabricView}
 use Rattle.fabric_rule.proofs.Frames.{of_each}
-use Rattle.fabric_rule.proofs.ListFrames.{counted_stay, in_work_stay, lists_stay, works_stay}
+use Rattle.fabric_rule.proofs.ListFrames.{counted_stay, in_work_stay, lists_stay, lists_there, streams_stay, works_stay}
 use Rattle.fabric_rule.proofs.Logs.{looked_log, other_log, own_log}
 use Rattle.fabric_rule.proofs.Sums.{sum_stays}
 
@@ -91,8 +91,10 @@ module _ {H : Type 0} (reply_of : List ℕ → Request → Reply) (shape : Shape
         chunks = λ f. sum_stays (chunks_at f) s.views id v u at refl ∙ old.chunks f;
         opens = of_each (OpensNoted core) (OpensNoted core) s.views id u (record { out = (old.opens id v at).out; back = (old.opens id v at).back }) (λ y is. is) old.opens;
         posts = λ stream. sum_stays (posts_at stream) s.views id v u at refl ∙ old.posts stream;
+        streams = streams_stay core core s.views id v u at refl (λ q i. refl) refl old.streams;
         records_known = of_each (RecordsKnown core holds.records) (RecordsKnown core holds.records) s.views id u (old.records_known id v at) (λ y is. is) old.records_known;
         lists = lists_stay core core holds.popped s.views id v u at same refl old.lists;
+        lists_there = lists_there core core s.views id v u at refl (λ k. refl) old.lists_there;
         works = works_stay core core holds.armed s.views id v u at same refl refl refl old.works;
         counted = counted_stay s.views id v u at (λ k. refl) old.counted;
         idle = of_each (IsIdle shape) (IsIdle shape) s.views id u (λ none. record { chunks = (old.idle id v at none).chunks; items = (old.idle id v at none).items }) (λ y is. is) old.idle;

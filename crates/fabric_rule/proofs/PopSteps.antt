@@ -78,7 +78,7 @@ use Rattle.fabric_rule.specs.declared.view.HeldItem.{HeldItem}
 use Rattle.fabric_rule.proofs.Contents.{filled_stay, kept_stay}
 use Rattle.fabric_rule.proofs.Frames.{chunks_stay, item_moves, of_each}
 use Rattle.fabric_rule.proofs.KeyedSteps.{keyed_step}
-use Rattle.fabric_rule.proofs.ListFrames.{care_same, counted_stay, in_work_stay, lists_same, posts_stay, records_stay, works_stay}
+use Rattle.fabric_rule.proofs.ListFrames.{care_same, counted_stay, in_work_stay, lists_same, lists_there, posts_stay, records_stay, streams_stay, works_stay}
 
 -- ---- what Pop leaves of a core
 
@@ -426,6 +426,23 @@ module _ {H : Type 0} (reply_of : List ℕ → Request → Reply) (shape : Shape
             omega (arith, rest.items q f, old, now_popped);
       }
 
+  record SaysTheSame (old new : Item) : Type 0 where
+    tag : new.tag ≡ old.tag
+    run : new.run ≡ old.run
+    part : new.part ≡ old.part
+    last : new.stream ≡ old.stream
+
+  same_item : (q i : ℕ) → SaysTheSame (item_of core q i) (item_of core' q i)
+  same_item q i =
+      elim (cases_eq q 0) [
+        | inl is ↦ elim (cases_eq i item) [
+          | inl this ↦ subst (λ (r : ℕ). SaysTheSame (item_of core r i) (item_of core' r i)) (sym is) (subst (λ (j : ℕ). SaysTheSame (item_of core 0 j) (item_of core' 0 j)) (sym this)
+              (subst (SaysTheSame (item_of core 0 item)) (sym (item_here core core' 0 item now changed)) (record { tag = refl; run = refl; part = refl; last = refl })))
+          | inr ne ↦ subst (SaysTheSame (item_of core q i)) (sym (moved q i (inr ne))) (record { tag = refl; run = refl; part = refl; last = refl })
+        ]
+        | inr ne ↦ subst (SaysTheSame (item_of core q i)) (sym (moved q i (inl ne))) (record { tag = refl; run = refl; part = refl; last = refl })
+      ]
+
   views' : ViewsShow shape word' holds.popped holds.armed holds.records core' (set s.views id u)
   views' =
       let old = holds.views in
@@ -437,8 +454,10 @@ module _ {H : Type 0} (reply_of : List ℕ → Request → Reply) (shape : Shape
         chunks = chunks_stay core core' s.views id v u at same.shape (pop_owner core v.seat 0 item place) (λ f. refl) old.chunks;
         opens = of_each (OpensNoted core) (OpensNoted core') s.views id u (opens_same v (old.opens id v at)) opens_same old.opens;
         posts = posts_stay core core' s.views id v u at same refl old.posts;
+        streams = streams_stay core core' s.views id v u at same.shape (λ q i. (same_item q i).last) refl old.streams;
         records_known = of_each (RecordsKnown core holds.records) (RecordsKnown core' holds.records) s.views id u (records_stay core core' holds.records v u same refl (old.records_known id v at)) (λ y. records_stay core core' holds.records y y same refl) old.records_known;
         lists = lists';
+        lists_there = lists_there core core' s.views id v u at same.shape (λ k. sym (ap (weigh (λ (d : Care). is_number k d.seat)) main.only)) old.lists_there;
         works = works_stay core core' holds.armed s.views id v u at same refl refl refl old.works;
         counted = counted_stay s.views id v u at (λ k. omega (arith, ap (weigh (λ (d : Care). cond (d.seat == k) d.opened_works 0)) main.only)) old.counted;
         idle = of_each (IsIdle shape) (IsIdle shape) s.views id u idle' (λ y is. is) old.idle;
@@ -455,22 +474,6 @@ module _ {H : Type 0} (reply_of : List ℕ → Request → Reply) (shape : Shape
     seats = seats_by_role_stay core (Pop v.seat 0 item place) holds.keeps.seats link.enabled;
     order = others_in_order holds.popped holds.armed core (Pop v.seat 0 item place) holds.keeps.sound holds.keeps.order refl link.enabled;
   }
-
-  record SaysTheSame (old new : Item) : Type 0 where
-    tag : new.tag ≡ old.tag
-    run : new.run ≡ old.run
-    part : new.part ≡ old.part
-
-  same_item : (q i : ℕ) → SaysTheSame (item_of core q i) (item_of core' q i)
-  same_item q i =
-      elim (cases_eq q 0) [
-        | inl is ↦ elim (cases_eq i item) [
-          | inl this ↦ subst (λ (r : ℕ). SaysTheSame (item_of core r i) (item_of core' r i)) (sym is) (subst (λ (j : ℕ). SaysTheSame (item_of core 0 j) (item_of core' 0 j)) (sym this)
-              (subst (SaysTheSame (item_of core 0 item)) (sym (item_here core core' 0 item now changed)) (record { tag = refl; run = refl; part = refl })))
-          | inr ne ↦ subst (SaysTheSame (item_of core q i)) (sym (moved q i (inr ne))) (record { tag = refl; run = refl; part = refl })
-        ]
-        | inr ne ↦ subst (SaysTheSame (item_of core q i)) (sym (moved q i (inl ne))) (record { tag = refl; run = refl; part = refl })
-      ]
 
   pub pops : (carried : List (ℕ × Option (Parcel H))) → IsMachineStep reply_of shape s holds (Pop v.seat 0 item place) (stepped s (offset_of shape (Head 0 LineSide)) (place + 1) id carried u keeps)
   pops carried = record {

@@ -1,29 +1,36 @@
 -- What steps do to the parts of the rule, as statements. A step changes the view of one seat, from v to u; what of it and of the
 -- core has changed is a premise, and what isn't named may have changed.
-use Rattle.std.specs.Prelude.{ℕ, ◌+◌, ◌*◌, ◌≡◌, ◌≢◌, ◌≤◌, ◌<◌, ◌⊎◌, List, set, Option}
-use Rattle.std.specs.List.{range_with_len}
+use Rattle.std.specs.Prelude.{ℕ, ◌+◌, ◌*◌, ◌≡◌, ◌≢◌, ◌≤◌, ◌<◌, ◌⊎◌, ◌==◌, ◌&&◌, List, [], ◌∷◌, length, set, Option}
+use Rattle.std.specs.List.{list_any, range_with_len}
 use mathlib.Core.Option.{some}
 use lib.ListN.{get_elem?}
 use Rattle.nncq_ring.specs.Words.{Words}
 use Rattle.app_queue.specs.declared.side.Side.{Side}
 use Rattle.app_queue.specs.declared.side.Side.TheVariants.{Free}
 use Rattle.request_context.specs.declared.piece.Parcel.{Parcel}
-use Rattle.unit_model.specs.Core.{item_of, owner_of, seat_of}
+use Rattle.unit_model.specs.Core.{item_of, owner_of, role_of, seat_of}
+use Rattle.unit_model.specs.Effects.{noted}
 use Rattle.unit_model.specs.Holding.{items_of, IsInRun}
 use Rattle.unit_model.specs.Limits.{segment_chunks}
-use Rattle.unit_model.specs.Weights.{weigh}
+use Rattle.unit_model.specs.Lists.{change_at}
+use Rattle.unit_model.specs.PartCounts.{of_stream}
+use Rattle.unit_model.specs.Weights.{weigh, times}
 use Rattle.unit_model.specs.declared.machine.Core.{Core}
 use Rattle.unit_model.specs.declared.machine.Item.{Item}
+use Rattle.unit_model.specs.declared.machine.Note.{Note}
+use Rattle.unit_model.specs.declared.machine.Note.TheVariants.{Drawn, Posted, Cancelled, Abandoned, Received, Taken, Sent, Closed}
 use Rattle.unit_model.specs.declared.machine.Owner.{Owner}
 use Rattle.unit_model.specs.declared.machine.Owner.TheVariants.{Seat}
+use Rattle.unit_model.specs.declared.machine.Seat.{Seat as SeatLists}
 use Rattle.unit_model.specs.declared.machine.Whereabouts.TheVariants.{WithSeat}
 use Rattle.unit_model.specs.declared.shape.Shape.{Shape}
 use Rattle.unit_types.specs.declared.message.Reply.{Reply}
 use Rattle.unit_types.specs.declared.message.Request.{Request}
 use Rattle.fabric_words.specs.Places.{HasItem, queues_of, segments_of}
 use Rattle.fabric_rule.specs.Contents.{ArmedFilled}
-use Rattle.fabric_rule.specs.Parts.{OfEach, ItemsHeld, ChunksHeld, SeatsThere, OpensNoted, PostsArmed, RecordsKnown, KeptAreWorn, ListsShown, WorksShown, WorksCounted, IsIdle, PostsInWork, hand_weight, owner_weight}
-use Rattle.fabric_rule.specs.Views.{hand_at, chunks_at, opens_at, works_at}
+use Rattle.fabric_rule.specs.Parts.{OfEach, ItemsHeld, ChunksHeld, SeatsThere, OpensNoted, PostsArmed, StreamsLatest, RecordsKnown, KeptAreWorn, ListsShown, ListsThere, WorksShown, WorksCounted, IsIdle, PostsInWork, hand_weight, owner_weight}
+use Rattle.fabric_rule.specs.Views.{hand_at, chunks_at, lists_at, opens_at, works_at}
+use Rattle.fabric_rule.specs.declared.view.Care.{Care}
 use Rattle.fabric_rule.specs.declared.view.FabricView.{FabricView}
 
 -- ---- who holds what
@@ -90,6 +97,14 @@ PostsStayLaw = (core core' : Core) (views : List FabricView) (id : ℕ) (v u : F
     → PostsArmed core views
     → PostsArmed core' (set views id u)
 
+abbrev pub StreamsStayLaw : Type 0
+StreamsStayLaw = (core core' : Core) (views : List FabricView) (id : ℕ) (v u : FabricView)
+    → get_elem? views id ≡ some v → core'.shape ≡ core.shape
+    → ((queue item : ℕ) → (item_of core' queue item).stream ≡ (item_of core queue item).stream)
+    → u.arms ≡ v.arms
+    → StreamsLatest core views
+    → StreamsLatest core' (set views id u)
+
 abbrev pub RecordsStayLaw : Type 0
 RecordsStayLaw = (core core' : Core) (records : ℕ → List ℕ) (v u : FabricView)
     → SameLists core core' → u.records ≡ v.records
@@ -101,6 +116,13 @@ ListsStayLaw = (core core' : Core) (popped : ℕ → List ℕ) (views : List Fab
     → get_elem? views id ≡ some v → SameLists core core' → u.care ≡ v.care
     → ListsShown core popped views
     → ListsShown core' popped (set views id u)
+
+abbrev pub ListsThereLaw : Type 0
+ListsThereLaw = (core core' : Core) (views : List FabricView) (id : ℕ) (v u : FabricView)
+    → get_elem? views id ≡ some v → core'.shape ≡ core.shape
+    → ((number : ℕ) → lists_at number u ≡ lists_at number v)
+    → ListsThere core views
+    → ListsThere core' (set views id u)
 
 abbrev pub WorksStayLaw : Type 0
 WorksStayLaw = (core core' : Core) (armed : ℕ → List ℕ) (views : List FabricView) (id : ℕ) (v u : FabricView)
@@ -146,3 +168,50 @@ FilledStayLaw H = (reply_of : List ℕ → Request → Reply) (records records' 
     × ((chunk : ℕ) → IsInRun (item_of core queue item).run chunk → get_elem? homes' chunk ≡ get_elem? homes chunk))
     → ArmedFilled reply_of records core homes
     → ArmedFilled reply_of records' core' homes'
+
+-- ---- where a seat's lists get a note more
+
+-- the stream that a note is about
+abbrev pub note_stream : Note → ℕ
+note_stream (Drawn stream) = stream
+note_stream (Posted stream) = stream
+note_stream (Cancelled stream) = stream
+note_stream (Abandoned stream) = stream
+note_stream (Received part) = part.stream
+note_stream (Taken stream) = stream
+note_stream (Sent part) = part.stream
+note_stream (Closed stream) = stream
+
+-- one seat's lists have the note, and the other ones are as they were
+pub record NotesOne (core core' : Core) (seat : ℕ) (note : Note) : Type 0 where
+  pub shape : core'.shape ≡ core.shape
+  pub inside : seat < length core.seats
+  pub seats : core'.seats ≡ change_at seat (noted note) core.seats
+
+-- The main view of that number has the note too.
+abbrev pub ListsNotedLaw : Type 0
+ListsNotedLaw = (core core' : Core) (note : Note) (popped popped' : ℕ → List ℕ) (views : List FabricView) (id : ℕ) (v u : FabricView) (c c' : Care)
+    → get_elem? views id ≡ some v → NotesOne core core' v.seat note
+    → v.care ≡ c ∷ [] → c.seat ≡ v.seat → u.care ≡ c' ∷ []
+    → c'.seat ≡ c.seat → c'.lists ≡ noted note c.lists → c'.refusals ≡ c.refusals
+    → (role_of core v.seat ≡ 0 → popped' v.seat ≡ c'.popped)
+    → ((number : ℕ) → number ≢ v.seat → popped' number ≡ popped number)
+    → ListsShown core popped views
+    → ListsShown core' popped' (set views id u)
+
+-- of the lists of a seat, what is said of one stream
+pub record SameOf (stream : ℕ) (lists lists' : SeatLists) : Type 0 where
+  pub drawn_as : times stream lists'.drawn ≡ times stream lists.drawn
+  pub posted_as : times stream lists'.posted ≡ times stream lists.posted
+  pub cancelled_as : times stream lists'.cancelled ≡ times stream lists.cancelled
+  pub abandoned_as : times stream lists'.abandoned ≡ times stream lists.abandoned
+  pub taken_as : times stream lists'.taken ≡ times stream lists.taken
+  pub closed_as : times stream lists'.closed ≡ times stream lists.closed
+  pub sent_as : weigh (of_stream stream) lists'.sent ≡ weigh (of_stream stream) lists.sent
+  pub finished_as : list_any (λ part. part.stream == stream && part.last) lists'.sent ≡ list_any (λ part. part.stream == stream && part.last) lists.sent
+  pub received_as : list_any (λ part. part.stream == stream && part.last) lists'.received ≡ list_any (λ part. part.stream == stream && part.last) lists.received
+
+-- A note is of one stream: what lists say of another one stays.
+abbrev pub NotedSameLaw : Type 0
+NotedSameLaw = (note : Note) (lists : SeatLists) (stream : ℕ) → stream ≢ note_stream note
+    → SameOf stream lists (noted note lists)

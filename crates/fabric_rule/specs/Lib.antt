@@ -1,8 +1,10 @@
 pub mod Contents
+pub mod CoreOf
 pub mod FrameLaws
 pub mod Keyed
 pub mod Opening
 pub mod Parts
+pub mod Passing
 pub mod Rule
 pub mod Steps
 pub mod Told

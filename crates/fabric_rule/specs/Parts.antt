@@ -22,9 +22,9 @@ use Rattle.unit_model.specs.declared.machine.Seat.{Seat as SeatLists}
 use Rattle.unit_model.specs.declared.machine.Whereabouts.{Whereabouts}
 use Rattle.unit_model.specs.declared.machine.Whereabouts.TheVariants.{InFreeList, InLine, WithSeat}
 use Rattle.unit_model.specs.declared.shape.Shape.{Shape}
-use Rattle.fabric_words.specs.Places.{queues_of, segments_of}
+use Rattle.fabric_words.specs.Places.{HasItem, queues_of, segments_of}
 use Rattle.fabric_rule.specs.Keyed.{Keyed}
-use Rattle.fabric_rule.specs.Views.{hand_at, chunks_at, held_at, open_noted, posts_at, posts_of, lists_at, opens_at, works_at, draw_at, draw_weight, take_at, take_weight, popped_at}
+use Rattle.fabric_rule.specs.Views.{hand_at, chunks_at, held_at, last_stream, open_noted, posts_at, posts_of, lists_at, opens_at, works_at, draw_at, draw_weight, take_at, take_weight, popped_at}
 use Rattle.fabric_rule.specs.declared.cause.Cause.{Cause}
 use Rattle.fabric_rule.specs.declared.cause.Cause.TheVariants.{NoChunks, NoItem, Worn}
 use Rattle.fabric_rule.specs.declared.cause.Refusal.{Refusal}
@@ -83,6 +83,12 @@ pub record OpensNoted (core : Core) (v : FabricView) : Type 0 where
 abbrev pub PostsArmed : Core → List FabricView → Type 0
 PostsArmed core views = (stream : ℕ) → weigh (posts_at stream) views ≡ by_all posted core stream
 
+-- an item's stream is that of its latest arm, 0 without one
+abbrev pub StreamsLatest : Core → List FabricView → Type 0
+StreamsLatest core views =
+    (queue item : ℕ) → HasItem core.shape queue item
+    → (item_of core queue item).stream ≡ last_stream views queue item
+
 -- a record that a view has is that of its stream, which was posted
 pub record IsPosting (core : Core) (records : ℕ → List ℕ) (p : Posting) : Type 0 where
   pub same : records p.stream ≡ p.bytes
@@ -135,6 +141,12 @@ ShowsLists core popped number v = Each (λ (c : Care). c.seat ≡ number → IsI
 -- The lists of each number are with one view, and they are the machine's.
 abbrev pub ListsShown : Core → (ℕ → List ℕ) → List FabricView → Type 0
 ListsShown core popped views = Keyed lists_at (ShowsLists core popped) views
+
+-- and there are those of each seat
+abbrev pub ListsThere : Core → List FabricView → Type 0
+ListsThere core views =
+    (number : ℕ) → number < core.shape.engines + core.shape.workers
+    → 1 ≤ weigh (lists_at number) views
 
 -- ---- works
 

@@ -1,5 +1,5 @@
 -- What a view says, for the parts of the rule: its log by what it is about, and weights of what it has.
-use Rattle.std.specs.Prelude.{ℕ, ◌+◌, ◌≡◌, ◌≢◌, ◌≤◌, ◌==◌, ◌&&◌, ◌⊎◌, Bool, true, false, cond, List, [], ◌∷◌, length, Some}
+use Rattle.std.specs.Prelude.{ℕ, ◌+◌, ◌≡◌, ◌≢◌, ◌≤◌, ◌==◌, ◌&&◌, ◌⊎◌, Bool, true, false, cond, if◌then◌else◌, nat_lt, List, [], ◌∷◌, flat_map, length, Option, Some, None}
 use Rattle.unit_model.specs.Shapes.{role_in}
 use Rattle.unit_model.specs.Weights.{weigh, one_if, is_number}
 use Rattle.unit_model.specs.declared.shape.Shape.{Shape}
@@ -180,6 +180,31 @@ posts_at stream v = weigh (λ (a : Arm). is_number stream a.stream) (arms_at 0 v
 abbrev pub posts_of : ℕ → ℕ → List Arming → ℕ
 posts_of stream item arms =
     weigh (λ (a : Arm). one_if (a.stream == stream && a.item == item)) (arms_among 0 arms)
+
+-- the later one of two arms
+abbrev pub later_arm : Arming → Option Arming → Option Arming
+later_arm a None = Some a
+later_arm a (Some b) = if nat_lt a.place b.place then Some b else Some a
+
+-- of an item's arms the one with the greatest get place
+abbrev pub latest_arm : ℕ → ℕ → List Arming → Option Arming
+latest_arm queue item [] = None
+latest_arm queue item (a ∷ rest) =
+    if a.queue == queue && a.item == item
+    then later_arm a (latest_arm queue item rest)
+    else latest_arm queue item rest
+
+abbrev pub stream_of_arm : Option Arming → ℕ
+stream_of_arm None = 0
+stream_of_arm (Some a) = a.stream
+
+-- the arms of all views
+abbrev pub all_arms : List FabricView → List Arming
+all_arms views = flat_map (λ (v : FabricView). v.arms) views
+
+-- the stream of an item's latest arm over all views, 0 without one
+abbrev pub last_stream : List FabricView → ℕ → ℕ → ℕ
+last_stream views queue item = stream_of_arm (latest_arm queue item (all_arms views))
 
 -- ---- lists and works
 

@@ -1,5 +1,5 @@
 use Rattle.fabric_rule.proofs.Contents.{kept_stay}
-use Rattle.fabric_rule.proofs.ListFrames.{counted_stay, in_work_stay, lists_stay, posts_stay, records_stay, works_stay}
+use Rattle.fabric_rule.proofs.ListFrames.{counted_stay, in_work_stay, lists_stay, lists_there, posts_stay, records_stay, streams_stay, works_stay}
 use Rattle.fabric_rule.proofs.laws.lists_and_works_stay.Goals as goal
 
 pub returns-clause-posts : goal.returns-clause-posts
@@ -22,3 +22,9 @@ returns-clause-in_work c = in_work_stay
 
 pub returns-clause-kept : goal.returns-clause-kept
 returns-clause-kept c = kept_stay
+
+pub returns-clause-streams : goal.returns-clause-streams
+returns-clause-streams c = streams_stay
+
+pub returns-clause-there : goal.returns-clause-there
+returns-clause-there c = lists_there
