@@ -1,6 +1,8 @@
 -- What a step leaves of the parcels of messages, and of items that are kept.
+use Rattle.unit_types.specs.declared.message.Reply.{Reply}
+use Rattle.unit_types.specs.declared.message.Request.{Request}
 use Rattle.std.proofs.Common.{ℕ, ◌+◌, ◌^◌, ◌≡◌, ◌≢◌, ◌≤◌, ◌<◌, inl, inr, List, length, refl, sym, ap, ◌∙◌, subst, arith}
-use Rattle.std.specs.Prelude.{slice_get}
+use Rattle.std.specs.Prelude.{Option}
 use mathlib.Core.Option.{some}
 use lib.ListN.{get_elem?}
 use Rattle.carried_slots.specs.RunLaws.{HaveValuesAtHome}
@@ -24,7 +26,7 @@ kept_stay shape ring ring' v u tails kept old =
     subst (λ (l : List KeptItem). Each (IsWornOut shape ring') l) (sym kept)
     (each_gives (IsWornOut shape ring) (IsWornOut shape ring') v.kept (λ k is. record { there = is.there; worn = omega (arith, is.worn, tails k.queue is.there) }) old)
 
-module _ {H : Type 0} (reply_of : List ℕ → Rattle.unit_types.specs.declared.message.Request.Request → Rattle.unit_types.specs.declared.message.Reply.Reply) (records records' : ℕ → List ℕ) (homes homes' : List (mathlib.Core.Option.Option (Rattle.std.specs.Prelude.Option (Parcel H)))) where
+module _ {H : Type 0} (reply_of : List ℕ → Request → Reply) (records records' : ℕ → List ℕ) (homes homes' : List (mathlib.Core.Option.Option (Option (Parcel H)))) where
   carries_same : (queue tag tag' part part' : ℕ) (parcels : List (Parcel H)) → tag' ≡ tag → part' ≡ part → records' tag ≡ records tag → Carries reply_of records queue tag part parcels → Carries reply_of records' queue tag' part' parcels
   carries_same queue tag tag' part part' parcels tags parts same (OfRequest line is) = OfRequest line (record {
     asks = is.asks;

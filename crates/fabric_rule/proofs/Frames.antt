@@ -1,4 +1,5 @@
 -- What a step leaves of the parts of the rule.
+use Rattle.unit_model.specs.declared.machine.Owner.{Owner}
 use Rattle.std.proofs.Common.{ℕ, ◌+◌, ◌*◌, ◌≡◌, ◌≢◌, ◌≤◌, ◌<◌, ◌⊎◌, inl, inr, ⊎_elim, cond, ◌==◌, List, [], ◌∷◌, set, refl, sym, ap, ◌∙◌, subst, arith}
 use Rattle.std.proofs.lemmas.Bool.{cases_eq}
 use Rattle.std.specs.List.{range_with_len}
@@ -64,7 +65,7 @@ chunks_stay core core' views id v u at shape owners same old f =
     let now : ℕ → ℕ = λ chunk. owner_weight f (owner_of core' chunk) chunk in
     let was : ℕ → ℕ = λ chunk. owner_weight f (owner_of core chunk) chunk in
     let n : ℕ = segment_chunks * segments_of core.shape in
-    let terms : below now n ≡ below was n = below_same now was n (λ chunk lt. ap (λ (o : Rattle.unit_model.specs.declared.machine.Owner.Owner). owner_weight f o chunk) (owners chunk)) in
+    let terms : below now n ≡ below was n = below_same now was n (λ chunk lt. ap (λ (o : Owner). owner_weight f o chunk) (owners chunk)) in
     sum_stays (chunks_at f) views id v u at (same f) ∙ old f ∙ sym terms ∙ sym (ap (λ (s : Shape). below now (segment_chunks * segments_of s)) shape)
 
 pub chunks_move : ChunksMoveLaw
@@ -74,5 +75,5 @@ chunks_move core core' views id v u at shape first n le owners moves old f =
     let all : ℕ = segment_chunks * segments_of core.shape in
     let sized : below now (segment_chunks * segments_of core'.shape) ≡ below now all = ap (λ (s : Shape). below now (segment_chunks * segments_of s)) shape in
     let terms : below now all + weigh was (range_with_len first n) ≡ below was all + weigh now (range_with_len first n) =
-    range_changes was now first n all le (λ chunk off. ap (λ (o : Rattle.unit_model.specs.declared.machine.Owner.Owner). owner_weight f o chunk) (owners chunk off)) in
+    range_changes was now first n all le (λ chunk off. ap (λ (o : Owner). owner_weight f o chunk) (owners chunk off)) in
     omega (arith, sized, old f, sum_set (chunks_at f) views id v u at, terms, moves f)

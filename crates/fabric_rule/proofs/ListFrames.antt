@@ -1,4 +1,5 @@
 -- What a step leaves of lists and works, where no seat's lists change.
+use Rattle.app_queue.specs.Arms.{Arm}
 use Rattle.std.proofs.Common.{ℕ, zero, suc, ◌+◌, ◌-◌, ◌/◌, ◌≡◌, ◌≢◌, ◌≤◌, ◌<◌, ◌⊎◌, inl, inr, ⊎_elim, cond, ◌==◌, List, [], ◌∷◌, ◌++◌, set, refl, sym, ap, ◌∙◌, subst, arith, get_or}
 use mathlib.Core.Option.{some, some-injective}
 use lib.ListN.{get_elem?}
@@ -114,7 +115,7 @@ works_stay core core' armed views id v u at same seat works arms old = record {
 
 pub posts_stay : PostsStayLaw
 posts_stay core core' views id v u at same arms old stream =
-    sum_stays (posts_at stream) views id v u at (ap (λ (l : List Arming). weigh (λ (a : Rattle.app_queue.specs.Arms.Arm). is_number stream a.stream) (arms_among 0 l)) arms)
+    sum_stays (posts_at stream) views id v u at (ap (λ (l : List Arming). weigh (λ (a : Arm). is_number stream a.stream) (arms_among 0 l)) arms)
     ∙ old stream ∙ sym (same_posted core core' same stream)
 
 pub records_stay : RecordsStayLaw

@@ -1,5 +1,5 @@
 -- A look at a ring.
-use Rattle.std.proofs.Common.{ℕ, ◌+◌, ◌≡◌, ◌≤◌, ◌<◌, inr, List, [], ◌∷◌, set, Some, refl, sym, ap, ◌∙◌, subst, arith}
+use Rattle.std.proofs.Common.{ℕ, ◌+◌, ◌≡◌, ◌≤◌, ◌<◌, inr, false, List, [], ◌∷◌, set, Some, refl, sym, ap, ◌∙◌, subst, arith}
 use Rattle.std.specs.Prelude.{Option}
 use mathlib.Core.Option.{some}
 use lib.ListN.{get_elem?}
@@ -42,13 +42,13 @@ use Rattle.fabric_rule.proofs.Sums.{sum_stays}
 
 module _ {H : Type 0} (reply_of : List ℕ → Request → Reply) (shape : Shape) (s : State (Option (Parcel H)) FabricView) (holds : FabricHolds reply_of shape s) (id : ℕ) (v : FabricView) (at : get_elem? s.views id ≡ some v)
     (queue : ℕ) (side : Side) (e : RingEvent) (there : queue < queues_of shape) (look : IsLook e) (noted : Noted (items_of shape queue) (ring_in (word_in shape s.words) queue side) e) where
-  abbrev u : FabricView
+  abbrev pub u : FabricView
   u = logged (AtRing queue side e) v
 
-  abbrev word : Place → ℕ
+  abbrev pub word : Place → ℕ
   word = word_in shape s.words
 
-  abbrev core : Core
+  abbrev pub core : Core
   core = holds.core
 
   same_events : (r : ℕ) → item_log r u.log ≡ item_log r v.log
@@ -79,7 +79,7 @@ module _ {H : Type 0} (reply_of : List ℕ → Request → Reply) (shape : Shape
             (λ q i mine. (mine, λ x told. subst (λ (es : List ItemEvent). last_part i es ≡ Some x) (same_events q) told)) old.parts;
         arms = λ q lt. arms_stay FabricView (got_at q) (arms_at q) (held_at q) (items_of shape q) (word (Head q FreeSide)) (word (Head q FreeSide)) (tag_in word q) (tag_in word q) (run_in word q) (run_in word q) (part_in word q) (part_in word q) s.views id v u at
             (omega arith) (λ i below_n. inr (refl, refl, refl)) refl
-            (λ i mine p got. (mine, (got.0, subst (λ (es : List ItemEvent). is_armed i es ≡ Rattle.std.specs.Prelude.false) (same_events q) got.1))) (old.arms q lt);
+            (λ i mine p got. (mine, (got.0, subst (λ (es : List ItemEvent). is_armed i es ≡ false) (same_events q) got.1))) (old.arms q lt);
       }
 
   views' : ViewsShow shape word holds.popped holds.armed holds.records core (set s.views id u)

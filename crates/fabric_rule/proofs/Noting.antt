@@ -109,7 +109,7 @@ lists_noted core core' note popped popped' views id v u c c' at notes only numbe
     } in
     keyed_step FabricView lists_at (ShowsLists core popped) (ShowsLists core' popped') views id v u at
     (λ key. omega (arith, as_many key, old.once key))
-    (λ key has. subst (λ (cs : List Care). Each (λ (d : Care). d.seat ≡ key → IsInCare core' popped' d) cs) (sym only') (λ is. now, tt))
+    (λ key has. subst (λ (cs : List Care). Each (λ (d : Care). d.seat ≡ key → IsInCare core' popped' d) cs) (sym only') ((λ is. now), tt))
     (λ key none y has shown.
     let other : key ≢ v.seat = λ is. absurd (omega (arith, none, ap (λ (k : ℕ). lists_at k v) (is ∙ sym number), mine_at)) in
     each_gives (λ (d : Care). d.seat ≡ key → IsInCare core popped d) (λ (d : Care). d.seat ≡ key → IsInCare core' popped' d) y.care

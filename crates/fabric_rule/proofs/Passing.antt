@@ -23,7 +23,7 @@ use Rattle.unit_model.specs.Holding.{IsInRun}
 use Rattle.unit_model.specs.Limits.{segment_chunks}
 use Rattle.unit_model.specs.Runs.{chunks_for}
 use Rattle.unit_model.specs.Soundness.{IsSound}
-use Rattle.unit_model.specs.Weights.{times}
+use Rattle.unit_model.specs.Weights.{is_number, times}
 use Rattle.unit_model.specs.declared.machine.Core.{Core}
 use Rattle.unit_model.specs.declared.machine.Item.{Item}
 use Rattle.unit_model.specs.declared.machine.Owner.{Owner}
@@ -121,7 +121,7 @@ slots_go H reply_of records records' core core' word homes carried sound shows s
     let n : ℕ = length parcels in
     let t : List (ℕ × Option (Parcel H)) = run_gone first n carried in
     let homes' : List (mathlib.Core.Option.Option (Option (Parcel H))) = homes_after homes carried (becomes carried t) in
-    let fewer : (k : ℕ) → times k (numbers t) ≤ times k (numbers carried) = λ k. omega (arith, given.weighs (Rattle.unit_model.specs.Weights.is_number k)) in
+    let fewer : (k : ℕ) → times k (numbers t) ≤ times k (numbers carried) = λ k. omega (arith, given.weighs (is_number k)) in
     let uncarried : (chunk : ℕ) → chunk < chunks → is_free (map_of word) chunk ≡ true → times chunk (numbers carried) ≡ 0 = λ chunk lt is_set.
     elim (cases_lt 0 (times chunk (numbers carried))) [
       | inl some_there ↦ absurd (is_seats (owner_of core chunk) seat (own chunk some_there).0 (sym (shows.chunks chunk lt) ∙ is_set))

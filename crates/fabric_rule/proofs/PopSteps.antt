@@ -1,4 +1,6 @@
 -- A worker pops the line.
+use Rattle.unit_model.specs.declared.machine.Sides.{Sides}
+use Rattle.fabric_rule.specs.declared.event.Segments.TheVariants.{Out, Back}
 use Rattle.std.proofs.Common.{ℕ, zero, suc, ◌+◌, ◌*◌, ◌/◌, ◌%◌, ◌^◌, ◌≡◌, ◌≢◌, ◌≤◌, ◌<◌, ◌⊎◌, ◌==◌, ◌&&◌, inl, inr, ⊎_elim, Bool, true, false, cond, List, [], ◌∷◌, length, set, refl, sym, ap, ◌∙◌, subst, arith, length-set, Some, None}
 use Rattle.std.specs.Prelude.{Option}
 use Rattle.std.proofs.lemmas.Bool.{cases_eq, eq-eqb, ne_eqb}
@@ -25,10 +27,10 @@ use Rattle.app_queue.proofs.QueueViews.{told_else, told_here}
 use Rattle.app_queue.proofs.RingFrames.{rings_step}
 use Rattle.request_context.specs.declared.piece.Parcel.{Parcel}
 use Rattle.unit_model.specs.Conditions.{conditions_by, conditions_of}
-use Rattle.unit_model.specs.Core.{item_of, owner_of, queue_of, role_of}
+use Rattle.unit_model.specs.Core.{first_item, item_of, owner_of, queue_of, role_of}
 use Rattle.unit_model.specs.Effects.{after_step, with_item, without_first_in_line}
-use Rattle.unit_model.specs.Holding.{is_in_line, items_of}
-use Rattle.unit_model.specs.PartOrder.{PartsInOrder}
+use Rattle.unit_model.specs.Holding.{entries_of, is_in_line, items_of}
+use Rattle.unit_model.specs.PartOrder.{Each, PartsInOrder}
 use Rattle.unit_model.specs.Premises.{Empties, Worker}
 use Rattle.unit_model.specs.Running.{Enabled}
 use Rattle.unit_model.specs.Shapes.{role_in}
@@ -69,7 +71,7 @@ use Rattle.fabric_rule.specs.FrameLaws.{SameLists}
 use Rattle.fabric_rule.specs.Parts.{ItemsHeld, IsAtRest, IsIdle, IsInCare, KeptAreWorn, ListsShown, OpensNoted, RecordsKnown, ShowsLists, hand_weight}
 use Rattle.fabric_rule.specs.Rule.{FabricHolds, MachineKeeps, NotesAreTrue, ViewsShow}
 use Rattle.fabric_rule.specs.Steps.{IsMachineStep, IsMain, PopLineLaw, popped_item, with_popped}
-use Rattle.fabric_rule.specs.Views.{arms_at, emptied_by, got_at, hand_at, held_at, is_got, is_side, item_log, kept_at, lists_at, log_at, opens_at, part_in, part_said, popped_at, queues_in, ring_in, ring_log, run_in, run_said, tag_in, tag_kept, tag_said, word_side, words_in}
+use Rattle.fabric_rule.specs.Views.{arms_at, emptied_by, got_at, hand_at, held_at, is_got, is_side, item_log, kept_at, lists_at, log_at, open_noted, opens_at, part_in, part_said, popped_at, queues_in, ring_in, ring_log, run_in, run_said, tag_in, tag_kept, tag_said, word_side, words_in}
 use Rattle.fabric_rule.specs.declared.event.FabricEvent.{FabricEvent}
 use Rattle.fabric_rule.specs.declared.event.FabricEvent.TheVariants.{AtRing}
 use Rattle.fabric_rule.specs.declared.view.Care.{Care}
@@ -103,7 +105,7 @@ was_inside : (core : Core) (seat queue item place : ℕ) → Enabled core (Pop s
 unfolding conditions_by
 was_inside core seat queue item place met = empty_inside core seat queue item (each_met (conditions_of core (Pop seat queue item place)) met 1)
 
-was_first : (core : Core) (seat queue item place : ℕ) → Enabled core (Pop seat queue item place) → Rattle.unit_model.specs.Core.first_item (queue_of core queue).line ≡ item
+was_first : (core : Core) (seat queue item place : ℕ) → Enabled core (Pop seat queue item place) → first_item (queue_of core queue).line ≡ item
 unfolding conditions_by
 was_first core seat queue item place met = first_in_line core queue item (each_met (conditions_of core (Pop seat queue item place)) met 3)
 
@@ -113,7 +115,7 @@ was_in_line core seat queue item place sound met =
     let low : item < 2 ^ 32 = item_is_low core queue item sound.held.shape (queue_there core queue item inside) inside in
     let some_there = first_counts (queue_of core queue).line item (was_first core seat queue item place met) low in
     let is : is_in_line (item_of core queue item).whereabouts ≡ true =
-    word_of_free (is_in_line (item_of core queue item).whereabouts) (Rattle.unit_model.specs.Holding.entries_of item (queue_of core queue).line) (sym (counts_at is_in_line (queue_of core queue).items (queue_of core queue).line item inside (sound.held.queues queue).line)) some_there in
+    word_of_free (is_in_line (item_of core queue item).whereabouts) (entries_of item (queue_of core queue).line) (sym (counts_at is_in_line (queue_of core queue).items (queue_of core queue).line item inside (sound.held.queues queue).line)) some_there in
     line_word (item_of core queue item).whereabouts is
 
 -- ---- an item that no seat has is in no view
@@ -169,31 +171,31 @@ module _ {H : Type 0} (reply_of : List ℕ → Request → Reply) (shape : Shape
     (at : get_elem? s.views id ≡ some v) (main : IsMain v c) (worker : role_in shape v.seat ≡ 1)
     (place entry : ℕ) (saw : get_elem? (log_at 0 Line v) 0 ≡ some (SawEntry place entry)) (full : entry / items_of shape 0 ≡ place / items_of shape 0)
     (found : word_in shape s.words (Head 0 LineSide) ≡ place) where
-  abbrev n : ℕ
+  abbrev pub n : ℕ
   n = items_of shape 0
 
-  abbrev item : ℕ
+  abbrev pub item : ℕ
   item = entry % items_of shape 0
 
-  abbrev u : FabricView
+  abbrev pub u : FabricView
   u = with_popped 0 item place c v
 
-  abbrev word : Place → ℕ
+  abbrev pub word : Place → ℕ
   word = word_in shape s.words
 
-  abbrev word' : Place → ℕ
+  abbrev pub word' : Place → ℕ
   word' = word_in shape (set s.words (offset_of shape (Head 0 LineSide)) (place + 1))
 
-  abbrev w : Words
+  abbrev pub w : Words
   w = ring_in word 0 Line
 
-  abbrev w' : Words
+  abbrev pub w' : Words
   w' = ring_in word' 0 Line
 
-  abbrev core : Core
+  abbrev pub core : Core
   core = holds.core
 
-  abbrev core' : Core
+  abbrev pub core' : Core
   core' = after_step core (Pop v.seat 0 item place)
 
   first_queue : 0 < queues_of shape
@@ -240,7 +242,7 @@ module _ {H : Type 0} (reply_of : List ℕ → Request → Reply) (shape : Shape
   in_line : (item_of core 0 item).whereabouts ≡ InLine
   in_line = was_in_line core v.seat 0 item place holds.keeps.sound link.enabled
 
-  abbrev now : Item
+  abbrev pub now : Item
   now = record (item_of core 0 item) { whereabouts = WithSeat v.seat }
 
   changed : SetsItem core core' 0 item now
@@ -326,24 +328,24 @@ module _ {H : Type 0} (reply_of : List ℕ → Request → Reply) (shape : Shape
   same_parts : (q : ℕ) → q < queues_of shape → (i : ℕ) → i < items_of shape q → word' (PartWord q i) ≡ word (PartWord q i)
   same_parts q lt i below_n = sets.others (PartWord q i) (record { in_queues = lt; in_items = below_n }) (λ is. absurd (cc is))
 
-  nothing_said : (before : Option ℕ) (x : ℕ) {C : Type 0} → cond (item == item) None before ≡ Some x → C
+  nothing_said : (before : Option ℕ) (x : ℕ) → cond (item == item) None before ≡ Some x → ⊥
   nothing_said before x told = let is : None ≡ Some x = told_here item None before x told in absurd (cc is)
 
   tags' : TagsKnown held_at tag_said (queues_in shape) (tag_in word') (set s.views id u)
   tags' = tags_known_one FabricView tag_said held_at (queues_in shape) (tag_in word) (tag_in word') s.views id v u at same_tags 0 item
-      (λ r i lt apart mine. (was_held r i apart mine, was_tag r i apart)) (λ x told. nothing_said (last_tag item (item_log 0 v.log)) x told) holds.notes.tags
+      (λ r i lt apart mine. (was_held r i apart mine, was_tag r i apart)) (λ x told. absurd (nothing_said (last_tag item (item_log 0 v.log)) x told)) holds.notes.tags
 
   kept_tags' : WordsKnown held_at (tag_kept shape) (queues_in shape) (tag_in word') (set s.views id u)
   kept_tags' = words_known_one FabricView (tag_kept shape) held_at (queues_in shape) (tag_in word) (tag_in word') s.views id v u at same_tags 0 item
-      (λ r i lt apart mine. (was_held r i apart mine, λ x told. (was_tag r i apart x told.0, told.1))) (λ x told. nothing_said (last_tag item (item_log 0 v.log)) x told.0) holds.notes.kept_tags
+      (λ r i lt apart mine. (was_held r i apart mine, λ x told. (was_tag r i apart x told.0, told.1))) (λ x told. absurd (nothing_said (last_tag item (item_log 0 v.log)) x told.0)) holds.notes.kept_tags
 
   runs' : WordsKnown held_at run_said (queues_in shape) (run_in word') (set s.views id u)
   runs' = words_known_one FabricView run_said held_at (queues_in shape) (run_in word) (run_in word') s.views id v u at same_runs 0 item
-      (λ r i lt apart mine. (was_held r i apart mine, was_run r i apart)) (λ x told. nothing_said (last_run item (item_log 0 v.log)) x told) holds.notes.runs
+      (λ r i lt apart mine. (was_held r i apart mine, was_run r i apart)) (λ x told. absurd (nothing_said (last_run item (item_log 0 v.log)) x told)) holds.notes.runs
 
   parts' : WordsKnown held_at part_said (queues_in shape) (part_in word') (set s.views id u)
   parts' = words_known_one FabricView part_said held_at (queues_in shape) (part_in word) (part_in word') s.views id v u at same_parts 0 item
-      (λ r i lt apart mine. (was_held r i apart mine, was_part r i apart)) (λ x told. nothing_said (last_part item (item_log 0 v.log)) x told) holds.notes.parts
+      (λ r i lt apart mine. (was_held r i apart mine, was_part r i apart)) (λ x told. absurd (nothing_said (last_part item (item_log 0 v.log)) x told)) holds.notes.parts
 
   -- the item wasn't got from the free ring
   was_got : (q i : ℕ) → (p : ℕ) → got_at q u i p → Holds (held_at q) i v × got_at q v i p
@@ -390,15 +392,15 @@ module _ {H : Type 0} (reply_of : List ℕ → Request → Reply) (shape : Shape
   opens_same y old =
       let is : core'.opened ≡ core.opened = pop_opened core v.seat 0 item place in
       record {
-        out = subst (λ (o : Rattle.unit_model.specs.declared.machine.Sides.Sides). Rattle.fabric_rule.specs.Views.open_noted Rattle.fabric_rule.specs.declared.event.Segments.TheVariants.Out y ≤ o.out) (sym is) old.out;
-        back = subst (λ (o : Rattle.unit_model.specs.declared.machine.Sides.Sides). Rattle.fabric_rule.specs.Views.open_noted Rattle.fabric_rule.specs.declared.event.Segments.TheVariants.Back y ≤ o.back) (sym is) old.back;
+        out = subst (λ (o : Sides). open_noted Out y ≤ o.out) (sym is) old.out;
+        back = subst (λ (o : Sides). open_noted Back y ≤ o.back) (sym is) old.back;
       }
 
   mine_in_care : IsInCare core holds.popped c
   mine_in_care =
       let once : 1 ≤ lists_at c.seat v = omega (arith, ap (weigh (λ (d : Care). is_number c.seat d.seat)) main.only, is_number_same c.seat) in
       let shown : ShowsLists core holds.popped c.seat v = holds.views.lists.each c.seat id v at once in
-      (subst (λ (cs : List Care). Rattle.unit_model.specs.PartOrder.Each (λ (d : Care). d.seat ≡ c.seat → IsInCare core holds.popped d) cs) main.only shown).0 refl
+      (subst (λ (cs : List Care). Each (λ (d : Care). d.seat ≡ c.seat → IsInCare core holds.popped d) cs) main.only shown).0 refl
 
   lists' : ListsShown core' holds.popped (set s.views id u)
   lists' =
@@ -407,7 +409,7 @@ module _ {H : Type 0} (reply_of : List ℕ → Request → Reply) (shape : Shape
       let role' : role_of core' c.seat ≢ 0 = λ is. absurd (omega (arith, is, ap (λ (sh : Shape). role_in sh c.seat) shape', ap (role_in shape) main.number, worker)) in
       keyed_step FabricView lists_at (ShowsLists core holds.popped) (ShowsLists core' holds.popped) s.views id v u at
       (λ key. omega (arith, as_many key, holds.views.lists.once key))
-      (λ key has. (λ is. record { lists = cared.lists; refused = cared.refused; popped_item = λ engine. absurd (role' engine) }, tt))
+      (λ key has. ((λ is. record { lists = cared.lists; refused = cared.refused; popped_item = λ engine. absurd (role' engine) }), tt))
       (λ key none y has is. lists_same core core' holds.popped same key y is)
       holds.views.lists
 

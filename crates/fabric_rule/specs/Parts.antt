@@ -17,7 +17,7 @@ use Rattle.unit_model.specs.StreamCounts.{by_all, by_seat, drawn, posted, taken}
 use Rattle.unit_model.specs.Weights.{weigh, below, times}
 use Rattle.unit_model.specs.declared.machine.Core.{Core}
 use Rattle.unit_model.specs.declared.machine.Owner.{Owner}
-use Rattle.unit_model.specs.declared.machine.Owner.TheVariants as owner
+use Rattle.unit_model.specs.declared.machine.Owner.TheVariants.{Free as Unowned, Seat as OfSeat, Message as OfMessage}
 use Rattle.unit_model.specs.declared.machine.Seat.{Seat as SeatLists}
 use Rattle.unit_model.specs.declared.machine.Whereabouts.{Whereabouts}
 use Rattle.unit_model.specs.declared.machine.Whereabouts.TheVariants.{InFreeList, InLine, WithSeat}
@@ -58,9 +58,9 @@ ItemsHeld core views =
 
 -- a chunk weighs where a seat owns it, by that seat
 abbrev pub owner_weight : (ℕ → ℕ → ℕ) → Owner → ℕ → ℕ
-owner_weight f owner.Free chunk = 0
-owner_weight f (owner.Seat seat) chunk = f seat chunk
-owner_weight f (owner.Message queue item) chunk = 0
+owner_weight f Unowned chunk = 0
+owner_weight f (OfSeat seat) chunk = f seat chunk
+owner_weight f (OfMessage queue item) chunk = 0
 
 -- The chunks that the machine has with seats are those that views have, each once, in a view of that seat's number.
 abbrev pub ChunksHeld : Core → List FabricView → Type 0

@@ -80,7 +80,7 @@ popped_item queue item place = record {
 
 abbrev pub with_popped : ℕ → ℕ → ℕ → Care → FabricView → FabricView
 with_popped queue item place c v = record v {
-  care = record c { popped = item ∷ [] } ∷ [];
+  care = (record c { popped = item ∷ [] }) ∷ [];
   items = popped_item queue item place ∷ v.items;
   log = AtRing queue Line (Popped place item) ∷ v.log;
 }

@@ -1,4 +1,5 @@
 -- What a view says, for the parts of the rule: its log by what it is about, and weights of what it has.
+use Rattle.nncq_ring.specs.Words.{Words}
 use Rattle.std.specs.Prelude.{ℕ, ◌+◌, ◌≡◌, ◌≢◌, ◌≤◌, ◌==◌, ◌&&◌, ◌⊎◌, Bool, true, false, cond, if◌then◌else◌, nat_lt, List, [], ◌∷◌, flat_map, length, Option, Some, None}
 use Rattle.unit_model.specs.Shapes.{role_in}
 use Rattle.unit_model.specs.Weights.{weigh, one_if, is_number}
@@ -40,7 +41,7 @@ word_side Line = LineSide
 abbrev pub queues_in : Shape → QueuesShape
 queues_in shape = record { queues = queues_of shape; items = items_of shape }
 
-abbrev pub ring_in : (Place → ℕ) → ℕ → Side → Rattle.nncq_ring.specs.Words.Words
+abbrev pub ring_in : (Place → ℕ) → ℕ → Side → Words
 ring_in word queue side = ring_of word queue (word_side side)
 
 abbrev pub tag_in : (Place → ℕ) → ℕ → ℕ → ℕ
