@@ -1,5 +1,6 @@
 pub mod Contents
 pub mod Frames
+pub mod Hands
 pub mod KeyedSteps
 pub mod ListFrames
 pub mod Logs

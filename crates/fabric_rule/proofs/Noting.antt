@@ -1,5 +1,5 @@
 -- A seat's lists get a note more.
-use Rattle.std.proofs.Common.{ℕ, ◌+◌, ◌≡◌, ◌≢◌, ◌≤◌, ◌<◌, ◌⊎◌, inl, inr, ⊎_elim, ◌==◌, ◌&&◌, ◌||◌, Bool, true, false, List, [], ◌∷◌, ◌++◌, length, get_or, set, refl, sym, ap, ◌∙◌, subst, arith}
+use Rattle.std.proofs.Common.{ℕ, ◌+◌, ◌-◌, ◌≡◌, ◌≢◌, ◌≤◌, ◌<◌, ◌⊎◌, inl, inr, ⊎_elim, ◌==◌, ◌&&◌, ◌||◌, Bool, true, false, List, [], ◌∷◌, ◌++◌, length, get_or, set, refl, sym, ap, ◌∙◌, subst, arith}
 use Rattle.std.specs.List.{list_any}
 use Rattle.std.proofs.lemmas.Bool.{cases_eq, ne_eqb}
 use mathlib.Core.Option.{some}
@@ -20,11 +20,14 @@ use Rattle.unit_model.specs.declared.shape.Shape.{Shape}
 use Rattle.unit_model.proofs.Changes.{changed_at, unchanged_at}
 use Rattle.unit_model.proofs.Weights.{is_number_other, is_number_same, weigh_push}
 use Rattle.fabric_rule.specs.FrameLaws.{ListsNotedLaw, NotedSameLaw, NotesOne, SameOf, note_stream}
-use Rattle.fabric_rule.specs.Parts.{IsInCare, IsOwn, IsRefused, ShowsLists}
+use Rattle.fabric_rule.specs.Parts.{IsInCare, IsOwn, IsRefused, KnowsWork, ShowsLists}
 use Rattle.fabric_rule.specs.Views.{lists_at}
 use Rattle.fabric_rule.specs.declared.cause.Refusal.{Refusal}
+use Rattle.fabric_rule.specs.declared.view.Arming.{Arming}
 use Rattle.fabric_rule.specs.declared.view.Care.{Care}
 use Rattle.fabric_rule.specs.declared.view.FabricView.{FabricView}
+use Rattle.fabric_rule.specs.declared.view.Work.{Work}
+use Rattle.fabric_rule.specs.declared.view.Work.TheVariants.{Drawn as DrawnWork, Posted as PostedWork, Taken as TakenWork, Sending, Holding}
 use Rattle.fabric_rule.proofs.KeyedSteps.{keyed_step}
 use Rattle.fabric_rule.proofs.ListFrames.{cause_stays}
 use Rattle.fabric_rule.proofs.Sums.{each_gives}
@@ -122,3 +125,52 @@ lists_noted core core' note popped popped' views id v u c c' at notes only numbe
     })
     shown)
     old
+
+-- ---- works
+
+-- the stream of a work
+pub work_stream : Work → ℕ
+work_stream (DrawnWork stream) = stream
+work_stream (PostedWork stream item) = stream
+work_stream (TakenWork stream parts) = stream
+work_stream (Sending stream queue item) = stream
+work_stream Holding = 0
+
+never_fewer : (note : Note) (l : SeatLists) (stream : ℕ) → times stream l.posted ≤ times stream (noted note l).posted
+never_fewer (Drawn n) l stream = omega arith
+never_fewer (Posted n) l stream = omega (arith, weigh_push (is_number stream) l.posted n)
+never_fewer (Cancelled n) l stream = omega arith
+never_fewer (Abandoned n) l stream = omega arith
+never_fewer (Received p) l stream = omega arith
+never_fewer (Taken n) l stream = omega arith
+never_fewer (Sent p) l stream = omega arith
+never_fewer (Closed n) l stream = omega arith
+
+module _ (core core' : Core) (seat : ℕ) (note : Note) (notes : NotesOne core core' seat note) (armed armed' : ℕ → List ℕ) where
+  pub posted_kept : (other stream : ℕ) → times stream (seat_of core other).posted ≤ times stream (seat_of core' other).posted
+  posted_kept other stream =
+      elim (cases_eq other seat) [
+        | inl is ↦ subst (λ (k : ℕ). times stream (seat_of core k).posted ≤ times stream (seat_of core' k).posted) (sym is)
+            (subst (λ (l : SeatLists). times stream (seat_of core seat).posted ≤ times stream l.posted) (sym (noted_here core core' seat note notes)) (never_fewer note (seat_of core seat) stream))
+        | inr away ↦ omega (arith, ap (λ (l : SeatLists). times stream l.posted) (noted_else core core' seat note notes other away))
+      ]
+
+  -- of another stream, or of another seat's lists, the same is said
+  pub said_as : (other stream : ℕ) → (stream ≢ note_stream note) ⊎ (other ≢ seat) → SameOf stream (seat_of core other) (seat_of core' other)
+  said_as other stream (inl ne) = same_of_others core core' seat note notes other stream ne
+  said_as other stream (inr away) = subst (SameOf stream (seat_of core other)) (sym (noted_else core core' seat note notes other away)) (record { drawn_as = refl; posted_as = refl; cancelled_as = refl; abandoned_as = refl; taken_as = refl; closed_as = refl; sent_as = refl; finished_as = refl; received_as = refl })
+
+  pub work_noted : (other : ℕ) (arms : List Arming) (w : Work) → (work_stream w ≢ note_stream note) ⊎ (other ≢ seat) → armed' (work_stream w) ≡ armed (work_stream w) → KnowsWork core armed other arms w → KnowsWork core' armed' other arms w
+  work_noted other arms (DrawnWork stream) apart same old =
+      let said = said_as other stream apart in
+      record { drew = omega (arith, old.drew, said.drawn_as); unposted = said.posted_as ∙ old.unposted }
+  work_noted other arms (PostedWork stream item) apart same old =
+      let said = said_as other stream apart in
+      record { was_posted = omega (arith, old.was_posted, said.posted_as); uncancelled = said.cancelled_as ∙ old.uncancelled; unabandoned = said.abandoned_as ∙ old.unabandoned; arm = old.arm }
+  work_noted other arms (TakenWork stream parts) apart same old =
+      let said = said_as other stream apart in
+      record { took = omega (arith, old.took, said.taken_as); unclosed = said.closed_as ∙ old.unclosed; parts_out = said.sent_as ∙ old.parts_out; unfinished = said.finished_as ∙ old.unfinished; nothing = same ∙ old.nothing }
+  work_noted other arms (Sending stream queue item) apart same old =
+      let said = said_as other stream apart in
+      record { took = omega (arith, old.took, said.taken_as); unclosed = said.closed_as ∙ old.unclosed; back = old.back; to = omega (arith, old.to, posted_kept (queue - 1) stream); one = same ∙ old.one }
+  work_noted other arms Holding apart same old = tt

@@ -1,6 +1,7 @@
 pub mod Contents
 pub mod CoreOf
 pub mod FrameLaws
+pub mod Hands
 pub mod Keyed
 pub mod Opening
 pub mod Parts

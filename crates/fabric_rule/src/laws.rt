@@ -1,6 +1,7 @@
 //! What steps do to the parts of the rule. Each function does nothing: its contract is the law.
 ghost use Rattle.fabric_rule.specs.FrameLaws.{ChunksMoveLaw, ChunksStayLaw, CountedStayLaw, InWorkStayLaw, ItemMovesLaw, ItemsStayLaw, KeptStayLaw, ListsNotedLaw, ListsStayLaw, ListsThereLaw, NotedSameLaw, PostsStayLaw, RecordsStayLaw, StreamsStayLaw, WorksStayLaw};
 ghost use Rattle.std.specs.Prelude.{ℕ, List};
+ghost use Rattle.fabric_rule.specs.Hands.{HandsOwnedLaw, InHandLaw};
 ghost use Rattle.fabric_rule.specs.Keyed.{KeyedJoin, KeyedSplit, KeyedStep};
 ghost use Rattle.fabric_rule.specs.Parts.{ShowsLists};
 ghost use Rattle.fabric_rule.specs.Passing.{SlotsComeLaw, SlotsGoLaw};
@@ -61,4 +62,10 @@ pub fn a_look_is_no_step<H: Handlers>()
 /// The exchange of the line's head by a worker is Pop, where it won.
 pub fn a_pop_of_the_line_is_a_step<H: Handlers>()
     ensures { PopLineLaw H }
+{}
+
+/// An item that a view has is in the hand of its seat, and each item is in a ring, kept, or with one view.
+pub fn each_item_is_in_one_place()
+    ensures hand { InHandLaw }
+    ensures owned { HandsOwnedLaw }
 {}
