@@ -44,8 +44,8 @@ keyed_join V has fact views id other v w both spent here also there parts nothin
 
 -- of no view that has it the fact could be so: then none has the key
 each_zero : {V : Type 0} (f : V → ℕ) (views : List V) → ((at : ℕ) (v : V) → get_elem? views at ≡ some v → f v ≡ 0) → weigh f views ≡ 0
-each_zero f [] none = refl
-each_zero f (x ∷ xs) none = omega (arith, none 0 x refl, each_zero f xs (λ at v there. none (suc at) v there))
+each_zero f [] zeros = refl
+each_zero f (x ∷ xs) zeros = omega (arith, zeros 0 x refl, each_zero f xs (λ at v there. zeros (suc at) v there))
 
 pub keyed_none : (V : Type 0) (has : ℕ → V → ℕ) (fact : ℕ → V → Type 0) (views : List V) (key : ℕ) → Keyed has fact views → ((v : V) → fact key v → ⊥) → weigh (has key) views ≡ 0
 keyed_none V has fact views key old never = each_zero (has key) views (λ at v there. ⊎_elim (λ some_has. absurd (never v (old.each key at v there (omega (arith, some_has))))) (λ none. omega (arith, none)) (cases_lt 0 (has key v)))

@@ -42,8 +42,8 @@ parts_else : (stream : ℕ) (part : Part) (xs : List Part) → stream ≢ part.s
 parts_else stream part xs ne = omega (arith, weigh_push (of_stream stream) xs part, ap one_if (ne_eqb part.stream stream (λ is. ne (sym is))))
 
 any_else : (test : Part → Bool) (part : Part) (xs : List Part) → test part ≡ false → list_any test (xs ++ part ∷ []) ≡ list_any test xs
-any_else test part [] none = rw none refl
-any_else test part (x ∷ xs) none = ap (λ (b : Bool). test x || b) (any_else test part xs none)
+any_else test part [] fails = rw fails refl
+any_else test part (x ∷ xs) fails = ap (λ (b : Bool). test x || b) (any_else test part xs fails)
 
 last_else : (stream : ℕ) (part : Part) → stream ≢ part.stream → (part.stream == stream && part.last) ≡ false
 last_else stream part ne = ap (λ (b : Bool). b && part.last) (ne_eqb part.stream stream (λ is. ne (sym is)))

@@ -67,13 +67,13 @@ one_message owner q i queue item one two apart =
 
 -- nor to a message and to nobody
 is_held : (owner : Owner) (queue item : ℕ) → owner ≡ Message queue item → is_owned_by_none owner ≡ true → ⊥
-is_held owner queue item is none = absurd (cc (ap is_owned_by_none is, none))
+is_held owner queue item is unowned = absurd (cc (ap is_owned_by_none is, unowned))
 
 is_seats : (owner : Owner) (seat : ℕ) → owner ≡ Seat seat → is_owned_by_none owner ≡ true → ⊥
-is_seats owner seat is none = absurd (cc (ap is_owned_by_none is, none))
+is_seats owner seat is unowned = absurd (cc (ap is_owned_by_none is, unowned))
 
 pub slots_come : (H : Type 0) → SlotsComeLaw H
-slots_come H reply_of records core core' word homes carried sound shows shape queue item there armed others zero free filled =
+slots_come H reply_of records core core' word homes carried sound shows shape queue item there armed others zero slots_free filled =
     let it : Item = item_of core queue item in
     let is : IsFilled reply_of records homes queue it = filled queue item there armed in
     let first : ℕ = first_of it.run in
@@ -84,7 +84,7 @@ slots_come H reply_of records core core' word homes carried sound shows shape qu
     ap (times chunk) (full_numbers first is.parcels ∙ ap (range_with_len first) is.long) ∙ out_of_range first (chunks_for it.run.size) chunk away in
     let uncarried : (chunk : ℕ) → chunk < segment_chunks * segments_of core.shape → is_free (map_of word) chunk ≡ true → times chunk (numbers t) ≡ 0 = λ chunk lt is_set.
     ⊎_elim (λ within. absurd (is_held (owner_of core chunk) queue item (sound.held.owners.runs chunk queue item armed within) (sym (shows.chunks chunk lt) ∙ is_set))) (λ away. off chunk away) (in_or_off it.run chunk) in
-    let free' : FreeSlots (segment_chunks * segments_of core.shape) (map_of word) (homes_after homes carried (takes_all t)) = free_taken_by (segment_chunks * segments_of core.shape) (map_of word) homes carried t uncarried taken free in
+    let free' : FreeSlots (segment_chunks * segments_of core.shape) (map_of word) (homes_after homes carried (takes_all t)) = free_taken_by (segment_chunks * segments_of core.shape) (map_of word) homes carried t uncarried taken slots_free in
     record {
       parcels = is.parcels;
       long = is.long;
@@ -113,7 +113,7 @@ slots_come H reply_of records core core' word homes carried sound shows shape qu
 
 -- a run that goes with its slots
 pub slots_go : (H : Type 0) → SlotsGoLaw H
-slots_go H reply_of records records' core core' word homes carried sound shows shape seat own once queue item others same_records parcels long values carries free filled =
+slots_go H reply_of records records' core core' word homes carried sound shows shape seat own once queue item others same_records parcels long values carries slots_free filled =
     let it : Item = item_of core' queue item in
     let first : ℕ = first_of it.run in
     let chunks : ℕ = segment_chunks * segments_of core.shape in
@@ -127,7 +127,7 @@ slots_go H reply_of records records' core core' word homes carried sound shows s
       | inl some_there ↦ absurd (is_seats (owner_of core chunk) seat (own chunk some_there).0 (sym (shows.chunks chunk lt) ∙ is_set))
       | inr none ↦ omega (arith, none)
     ] in
-    let free' : FreeSlots chunks (map_of word) homes' = free_become chunks (map_of word) homes carried t uncarried fewer given.turned free in
+    let free' : FreeSlots chunks (map_of word) homes' = free_become chunks (map_of word) homes carried t uncarried fewer given.turned slots_free in
     -- a chunk of another message isn't carried
     let stays : (q i chunk : ℕ) → (item_of core q i).tag ≢ 0 → IsInRun (item_of core q i).run chunk → get_elem? homes' chunk ≡ get_elem? homes chunk = λ q i chunk armed within.
     let message : owner_of core chunk ≡ Message q i = sound.held.owners.runs chunk q i armed within in

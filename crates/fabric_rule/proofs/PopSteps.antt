@@ -414,8 +414,8 @@ module _ {H : Type 0} (reply_of : List ℕ → Request → Reply) (shape : Shape
       holds.views.lists
 
   idle' : IsIdle shape u
-  idle' none =
-      let rest : IsAtRest shape v = holds.views.idle id v at none in
+  idle' spent =
+      let rest : IsAtRest shape v = holds.views.idle id v at spent in
       let queue : emptied_by shape c.seat ≡ 0 = ap (λ (b : Bool). cond b (1 + c.seat) 0) (ne_eqb (role_in shape c.seat) 0 (λ is. absurd (omega (arith, is, ap (role_in shape) main.number, worker)))) in
       record {
         chunks = rest.chunks;
