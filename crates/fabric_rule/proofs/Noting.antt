@@ -129,7 +129,7 @@ lists_noted core core' note popped popped' views id v u c c' at notes only numbe
 -- ---- works
 
 -- the stream of a work
-pub work_stream : Work → ℕ
+abbrev pub work_stream : Work → ℕ
 work_stream (DrawnWork stream) = stream
 work_stream (PostedWork stream item) = stream
 work_stream (TakenWork stream parts) = stream

@@ -454,7 +454,7 @@ module _ {H : Type 0} (reply_of : List ℕ → Request → Reply) (shape : Shape
             (subst (λ (sh : Shape). role_in sh v.seat ≤ 1) (sym same.shape) (old.there id v at)) (λ y. subst (λ (sh : Shape). role_in sh y.seat ≤ 1) (sym same.shape)) old.there;
         items = items';
         chunks = chunks_stay core core' s.views id v u at same.shape (pop_owner core v.seat 0 item place) (λ f. refl) old.chunks;
-        opens = of_each (OpensNoted core) (OpensNoted core') s.views id u (opens_same v (old.opens id v at)) opens_same old.opens;
+        opens = of_each (OpensNoted core) (OpensNoted core') s.views id u (record { out = (opens_same v (old.opens id v at)).out; back = (opens_same v (old.opens id v at)).back }) opens_same old.opens;
         posts = posts_stay core core' s.views id v u at same refl old.posts;
         streams = streams_stay core core' s.views id v u at same.shape (λ q i. (same_item q i).last) refl old.streams;
         records_known = of_each (RecordsKnown core holds.records) (RecordsKnown core' holds.records) s.views id u (records_stay core core' holds.records v u same refl (old.records_known id v at)) (λ y. records_stay core core' holds.records y y same refl) old.records_known;
