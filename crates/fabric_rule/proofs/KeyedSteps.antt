@@ -47,5 +47,5 @@ each_zero : {V : Type 0} (f : V → ℕ) (views : List V) → ((at : ℕ) (v : V
 each_zero f [] zeros = refl
 each_zero f (x ∷ xs) zeros = omega (arith, zeros 0 x refl, each_zero f xs (λ at v there. zeros (suc at) v there))
 
-pub keyed_none : (V : Type 0) (has : ℕ → V → ℕ) (fact : ℕ → V → Type 0) (views : List V) (key : ℕ) → Keyed has fact views → ((v : V) → fact key v → ⊥) → weigh (has key) views ≡ 0
-keyed_none V has fact views key old never = each_zero (has key) views (λ at v there. ⊎_elim (λ some_has. absurd (never v (old.each key at v there (omega (arith, some_has))))) (λ none. omega (arith, none)) (cases_lt 0 (has key v)))
+pub keyed_none : (V : Type 0) (has : ℕ → V → ℕ) (fact : ℕ → V → Type 0) (views : List V) (key : ℕ) → Keyed has fact views → ((v : V) → 1 ≤ has key v → fact key v → ⊥) → weigh (has key) views ≡ 0
+keyed_none V has fact views key old never = each_zero (has key) views (λ at v there. ⊎_elim (λ some_has. absurd (never v (omega (arith, some_has)) (old.each key at v there (omega (arith, some_has))))) (λ none. omega (arith, none)) (cases_lt 0 (has key v)))

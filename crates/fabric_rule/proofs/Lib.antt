@@ -10,3 +10,4 @@ pub mod Passing
 pub mod PopSteps
 pub mod Popping
 pub mod Sums
+pub mod TakeSteps

@@ -49,7 +49,7 @@ in_or_off run chunk =
     ]
 
 -- one item or another
-this_or_other : (queue item q i : ℕ) → ((q ≡ queue) × (i ≡ item)) ⊎ ((q ≢ queue) ⊎ (i ≢ item))
+pub this_or_other : (queue item q i : ℕ) → ((q ≡ queue) × (i ≡ item)) ⊎ ((q ≢ queue) ⊎ (i ≢ item))
 this_or_other queue item q i =
     elim (cases_eq q queue) [
       | inl same ↦ elim (cases_eq i item) [

@@ -5,7 +5,7 @@ ghost use Rattle.fabric_rule.specs.Hands.{HandsOwnedLaw, InHandLaw};
 ghost use Rattle.fabric_rule.specs.Keyed.{KeyedJoin, KeyedSplit, KeyedStep};
 ghost use Rattle.fabric_rule.specs.Parts.{ShowsLists};
 ghost use Rattle.fabric_rule.specs.Passing.{SlotsComeLaw, SlotsGoLaw};
-ghost use Rattle.fabric_rule.specs.Steps.{LookLaw, PopLineLaw};
+ghost use Rattle.fabric_rule.specs.Steps.{LookLaw, PopLineLaw, TakeLaw};
 ghost use Rattle.fabric_rule.specs.Views.{lists_at};
 ghost use Rattle.unit_model.specs.declared.machine.Core.{Core};
 
@@ -68,4 +68,10 @@ pub fn a_pop_of_the_line_is_a_step<H: Handlers>()
 pub fn each_item_is_in_one_place()
     ensures hand { InHandLaw }
     ensures owned { HandsOwnedLaw }
+{}
+
+/// The exchange of a line item's tag by the worker that holds it is Settle, where it won: the stream is taken, and all slots of the
+/// run come with it, with the record that the stream's poster posted.
+pub fn a_take_is_a_step<H: Handlers>()
+    ensures { TakeLaw H }
 {}

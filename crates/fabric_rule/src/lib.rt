@@ -11,7 +11,7 @@ mod view;
 pub use cause::{Cause, Refusal};
 pub use event::{FabricEvent, Segments};
 pub use laws::{
-    a_look_is_no_step, a_pop_of_the_line_is_a_step, each_item_is_in_one_place,
+    a_look_is_no_step, a_pop_of_the_line_is_a_step, a_take_is_a_step, each_item_is_in_one_place,
     lists_and_works_stay, lists_are_noted, slots_pass_with_tags, what_is_held_is_shown,
     what_one_view_says_stays,
 };
