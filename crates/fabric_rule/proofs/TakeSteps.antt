@@ -285,7 +285,7 @@ module _ {H : Type 0} (reply_of : List ℕ → Request → Reply) (shape : Shape
   request : IsRequest holds.records stream come.parcels
   request = subst (λ (n : ℕ). IsRequest holds.records n come.parcels) tag_is (request_of reply_of holds.records it.tag it.part come.parcels come.carries)
 
-  abbrev pub u : FabricView
+  abbrev u : FabricView
   u = with_request item stream run (joined come.parcels) c v
 
   -- ---- notes
