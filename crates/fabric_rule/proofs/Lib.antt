@@ -1,0 +1,13 @@
+pub mod Contents
+pub mod Frames
+pub mod Hands
+pub mod KeyedSteps
+pub mod ListFrames
+pub mod Logs
+pub mod LookSteps
+pub mod Noting
+pub mod Passing
+pub mod PopSteps
+pub mod Popping
+pub mod Sums
+pub mod TakeSteps

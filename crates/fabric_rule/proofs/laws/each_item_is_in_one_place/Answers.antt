@@ -1,0 +1,8 @@
+use Rattle.fabric_rule.proofs.Hands.{hands_owned, in_hand}
+use Rattle.fabric_rule.proofs.laws.each_item_is_in_one_place.Goals as goal
+
+pub returns-clause-hand : goal.returns-clause-hand
+returns-clause-hand c = in_hand
+
+pub returns-clause-owned : goal.returns-clause-owned
+returns-clause-owned c = hands_owned

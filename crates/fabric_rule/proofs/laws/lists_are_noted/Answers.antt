@@ -1,0 +1,8 @@
+use Rattle.fabric_rule.proofs.Noting.{lists_noted, noted_same}
+use Rattle.fabric_rule.proofs.laws.lists_are_noted.Goals as goal
+
+pub returns-clause-lists : goal.returns-clause-lists
+returns-clause-lists c = lists_noted
+
+pub returns-clause-others : goal.returns-clause-others
+returns-clause-others c = noted_same

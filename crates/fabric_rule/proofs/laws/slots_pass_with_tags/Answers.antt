@@ -1,0 +1,8 @@
+use Rattle.fabric_rule.proofs.Passing.{slots_come, slots_go}
+use Rattle.fabric_rule.proofs.laws.slots_pass_with_tags.Goals as goal
+
+pub returns-clause-come : goal.returns-clause-come
+returns-clause-come g c = slots_come g.row.H.Denot
+
+pub returns-clause-go : goal.returns-clause-go
+returns-clause-go g c = slots_go g.row.H.Denot

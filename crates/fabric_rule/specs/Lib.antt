@@ -1,0 +1,12 @@
+pub mod Contents
+pub mod CoreOf
+pub mod FrameLaws
+pub mod Hands
+pub mod Keyed
+pub mod Opening
+pub mod Parts
+pub mod Passing
+pub mod Rule
+pub mod Steps
+pub mod Told
+pub mod Views

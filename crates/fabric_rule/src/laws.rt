@@ -1,0 +1,77 @@
+//! What steps do to the parts of the rule. Each function does nothing: its contract is the law.
+ghost use Rattle.fabric_rule.specs.FrameLaws.{ChunksMoveLaw, ChunksStayLaw, CountedStayLaw, InWorkStayLaw, ItemMovesLaw, ItemsStayLaw, KeptStayLaw, ListsNotedLaw, ListsStayLaw, ListsThereLaw, NotedSameLaw, PostsStayLaw, RecordsStayLaw, StreamsStayLaw, WorksStayLaw};
+ghost use Rattle.std.specs.Prelude.{ℕ, List};
+ghost use Rattle.fabric_rule.specs.Hands.{HandsOwnedLaw, InHandLaw};
+ghost use Rattle.fabric_rule.specs.Keyed.{KeyedJoin, KeyedSplit, KeyedStep};
+ghost use Rattle.fabric_rule.specs.Parts.{ShowsLists};
+ghost use Rattle.fabric_rule.specs.Passing.{SlotsComeLaw, SlotsGoLaw};
+ghost use Rattle.fabric_rule.specs.Steps.{LookLaw, PopLineLaw, TakeLaw};
+ghost use Rattle.fabric_rule.specs.Views.{lists_at};
+ghost use Rattle.unit_model.specs.declared.machine.Core.{Core};
+
+use unit_types::Handlers;
+
+/// What views hold stays what the machine has with seats, also where one item or the chunks of a run change hands.
+pub fn what_is_held_is_shown()
+    ensures items { ItemsStayLaw }
+    ensures item { ItemMovesLaw }
+    ensures chunks { ChunksStayLaw }
+    ensures run { ChunksMoveLaw }
+{}
+
+/// What views say of lists and works stays true where no seat's lists change.
+pub fn lists_and_works_stay()
+    ensures posts { PostsStayLaw }
+    ensures streams { StreamsStayLaw }
+    ensures records { RecordsStayLaw }
+    ensures lists { ListsStayLaw }
+    ensures there { ListsThereLaw }
+    ensures works { WorksStayLaw }
+    ensures counted { CountedStayLaw }
+    ensures in_work { InWorkStayLaw }
+    ensures kept { KeptStayLaw }
+{}
+
+/// What one view alone says of a key stays true at a step, a split and a join: here of the lists of a seat number.
+pub fn what_one_view_says_stays()
+    ensures step { (core : Core) (core' : Core) (popped : ℕ → List ℕ) (popped' : ℕ → List ℕ)
+        → KeyedStep lists_at (ShowsLists core popped) (ShowsLists core' popped') }
+    ensures split { (core : Core) (popped : ℕ → List ℕ)
+        → KeyedSplit lists_at (ShowsLists core popped) }
+    ensures join { (core : Core) (popped : ℕ → List ℕ)
+        → KeyedJoin lists_at (ShowsLists core popped) }
+{}
+
+/// Where a seat's lists get a note, the main view of its number gets it too, and what is said of other streams stays.
+pub fn lists_are_noted()
+    ensures lists { ListsNotedLaw }
+    ensures others { NotedSameLaw }
+{}
+
+/// Slots pass with tags: those of a run come with a settle, with the parcels of its message, and go with an arm.
+pub fn slots_pass_with_tags<H: Handlers>()
+    ensures come { SlotsComeLaw H }
+    ensures go { SlotsGoLaw H }
+{}
+
+/// A look at a ring is no step of the machine.
+pub fn a_look_is_no_step<H: Handlers>()
+    ensures { LookLaw H }
+{}
+
+/// The exchange of the line's head by a worker is Pop, where it won.
+pub fn a_pop_of_the_line_is_a_step<H: Handlers>()
+    ensures { PopLineLaw H }
+{}
+
+/// An item that a view has is in the hand of its seat, and each item is in a ring, kept, or with one view.
+pub fn each_item_is_in_one_place()
+    ensures hand { InHandLaw }
+    ensures owned { HandsOwnedLaw }
+{}
+
+/// The exchange of a line item's tag by the worker that holds it is Settle, where it won: the stream is taken, and all slots of the
+/// run come with it, with the record that the stream's poster posted.
+pub fn a_take_is_a_step<H: Handlers>()
+    ensures { TakeLaw H }
+{}
