@@ -1,12 +1,10 @@
 -- A request that is found is bounded.
-use Rattle.std.proofs.Common.{ℕ, ◌≡◌, ◌+◌, ◌-◌, ◌≤◌, zero, suc, refl, sym, ap, ◌∙◌, subst, List, [], ◌∷◌, ◌++◌, length, take, drop, map, Bool, true, false, nat_lt, nat_le, if◌then◌else◌, Option, Some, None, arith, append-nil, length-append, length-take}
+use Rattle.std.proofs.Common.{ℕ, ◌≡◌, ◌+◌, ◌-◌, ◌≤◌, zero, suc, refl, ap, ◌∙◌, subst, List, [], ◌∷◌, ◌++◌, length, take, drop, map, Bool, true, false, nat_lt, nat_le, if◌then◌else◌, Option, Some, None, arith, length-append, length-take}
 use Rattle.std.specs.Bool.{⊤}
-use Rattle.std.specs.Prelude.{sum_by}
 use Rattle.std.specs.List.{flat_map}
 use Rattle.std.specs.Char.{to_ascii_lowercase}
 use Rattle.std.proofs.lemmas.Bool.Decides.{nat_tests}
 use Rattle.std.proofs.lemmas.List.{length-map}
-use Rattle.std.proofs.lemmas.List.Concat.{flat_map-cons}
 use Rattle.std.proofs.lemmas.List.Sums.{sum_by-cons}
 use Rattle.httparse.specs.Grammar as grammar
 use Rattle.httparse.specs.Grammar.{RequestHead, print_end, print_version, print_field, print_section}

@@ -1,11 +1,9 @@
 -- No text that is cut out of another one is longer than it, and a normal path has at most one byte more than its raw form.
-use Rattle.std.proofs.Common.{ℕ, ◌≡◌, ◌+◌, ◌-◌, ◌≤◌, refl, ap, List, [], ◌∷◌, ◌++◌, length, take, drop, reverse, map, fold, Bool, true, false, not, ◌||◌, cond, eqb, codes, Option, Some, None, arith, append_assoc, length-take, length-drop, length-append}
-use Rattle.std.specs.Prelude.{sum_by}
-use Rattle.std.specs.List.{before_first, after_first, position_or_len, find, last_or, flat_map, onto_first}
+use Rattle.std.proofs.Common.{ℕ, ◌≡◌, ◌+◌, ◌-◌, ◌≤◌, refl, List, [], ◌∷◌, ◌++◌, length, drop, reverse, fold, Bool, true, false, not, ◌||◌, cond, eqb, codes, Option, Some, None, arith, length-take, length-drop, length-append}
+use Rattle.std.specs.List.{before_first, after_first, position_or_len, find, last_or, onto_first}
 use Rattle.std.specs.Char.{is_ascii_digit, to_ascii_lowercase}
 use Rattle.std.proofs.lemmas.Bool.{cond_both}
 use Rattle.std.proofs.lemmas.List.{length-map, length-reverse}
-use Rattle.std.proofs.lemmas.List.Concat.{flat_map-cons, flat_map-append}
 use Rattle.std.proofs.lemmas.List.Sums.{sum_by-cons, prefix_len-le-length}
 use Rattle.percent_encoding.specs.Percent.{percent_decode}
 use Rattle.percent_encoding.proofs.PercentLemmas.{length-percent_decode}
