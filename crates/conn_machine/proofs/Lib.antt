@@ -6,6 +6,7 @@ mod FrontLaws
 mod NamedTurns
 mod NeedLemmas
 mod PlainLemmas
+mod RecordLemmas
 mod SameLemmas
 mod StepLemmas
 mod TurnLemmas

@@ -4,6 +4,7 @@
 mod answers;
 mod laws;
 mod receipt;
+pub mod records;
 #[cfg(test)]
 mod tests;
 
