@@ -1,14 +1,17 @@
 -- The slots of a seat after a search, and after a run was given back.
-use Rattle.std.proofs.Common.{ℕ, ◌≡◌, ◌+◌, List, [], ◌∷◌, refl, ap, ◌∙◌, arith}
+use Rattle.std.proofs.Common.{ℕ, ◌≡◌, ◌+◌, ◌/◌, ◌<◌, ◌≤◌, inl, inr, List, [], ◌∷◌, refl, ap, ◌∙◌, arith}
 use Rattle.std.specs.List.{range_with_len}
 use Rattle.std.specs.Prelude.{Option}
 use Rattle.atomic_table.specs.Table.{Me}
 use Rattle.carried_slots.specs.Carried.{content, numbers, IsDistinct}
 use Rattle.carried_slots.specs.EmptySlots.{empty_weight, full_slots}
-use Rattle.carried_slots.specs.RunSlots.{HasEmpty, HasNone, SameElsewhere}
+use Rattle.carried_slots.specs.RunLaws.{AreApart}
+use Rattle.carried_slots.specs.RunSlots.{HasEmpty, HasFull, HasNone, SameElsewhere}
 use Rattle.carried_slots.proofs.EmptySlots.{full_stay, same_known, empty_known, known_empty, parts_weigh}
 use Rattle.carried_slots.proofs.Lookups.{none_content}
 use Rattle.carried_slots.proofs.RunLists.{in_range, out_of_range}
+use Rattle.carried_slots.proofs.RunMoving.{run_stays}
+use Rattle.unit_model.specs.Runs.{chunks_for}
 use Rattle.unit_model.specs.Weights.{weigh, is_number, times}
 use Rattle.chunk_map.specs.Gains.{Steps, given_back, with_events}
 use Rattle.chunk_map.specs.declared.view.MapEvent.{MapEvent}
@@ -84,3 +87,20 @@ module _ {T : Type 0} where
       ap (λ (m : V). weigh f (range_with_len first n) + empty_weight f m.1) is
       ∙ back_weigh V did weighs (λ h chunk m. refl) (λ h chunk m mine. frees_one h chunk m.1 mine) first n me f (λ i lt. known_empty (first + i) me.1 (empty i lt)) in
       run_released first n me.1 me'.1 once once' full given
+
+-- two runs have no slot in common, whichever is named first
+pub apart_either : (first n other m : ℕ) → AreApart first n other m → AreApart other m first n
+apart_either first n other m (inl before) = inr before
+apart_either first n other m (inr behind) = inl behind
+
+-- a run that is filled stays so where another one changes
+pub stays_full : {T : Type 0} (first n other m : ℕ) (c c' : List (ℕ × Option T)) → AreApart first n other m → SameElsewhere other m c c' → HasFull first n c → HasFull first n c'
+stays_full {T} first n other m c c' apart same full i lt = let there = full i lt in (there.0, run_stays T first n other m c c' apart same i lt ∙ there.1)
+
+-- and one that is empty
+pub stays_empty : {T : Type 0} (first n other m : ℕ) (c c' : List (ℕ × Option T)) → AreApart first n other m → SameElsewhere other m c c' → HasEmpty first n c → HasEmpty first n c'
+stays_empty {T} first n other m c c' apart same empty i lt = run_stays T first n other m c c' apart same i lt ∙ empty i lt
+
+-- a run of some bytes has some chunks
+pub some_chunks : (size : ℕ) → 1 ≤ size → 0 < chunks_for size
+some_chunks size some = let is : chunks_for size ≡ (size + 16383) / 16384 = refl in omega (arith, is, some)
