@@ -3,8 +3,6 @@
 
 mod connection;
 mod laws;
-#[cfg(test)]
-mod tests;
 mod text;
 
 pub use connection::control_status;
