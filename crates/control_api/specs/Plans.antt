@@ -1,4 +1,4 @@
--- ---- for private clauses: what is planned before anything is changed
+-- What is planned before anything is changed, and the outcome of what a reader told.
 use Rattle.std.specs.Prelude.{ℕ, ◌<◌, List, IsUtf8, ⊤}
 use Rattle.unit_types.specs.declared.message.Addr.{Addr}
 use Rattle.conf_tree.specs.Document.{IsDocument}

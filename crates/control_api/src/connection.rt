@@ -9,7 +9,7 @@ ghost use Rattle.control_api.specs.Plans.{answer_in, IsSoundNext, IsSoundPlan, n
 ghost use Rattle.control_api.specs.Replies.{done_text, reply_bytes};
 ghost use Rattle.http_front.specs.Written.{continue_bytes};
 
-use crate::front::front_of;
+use crate::front::{Front, front_of};
 use crate::plan::{Plan, plan_for};
 use crate::refusal::Refusal;
 use crate::reply::{DONE, put_refusal, put_reply};
@@ -34,8 +34,33 @@ pub fn control(alloc: Global, book: &mut Book, request: &[u8]) -> Result<Bytes, 
     ensures err { OnErr result (book.new ≡ book.old) }
 {
     let front = front_of(alloc, request)?;
-    let due = Bytes::copy_of(alloc, continue_text(front.is_due))?;
-    reply_to(alloc, book, front.next, due)
+    control_at(alloc, book, front)
+}
+
+/// The reply to what stands at the front of a control connection's bytes. An accepted change is published in the book.
+///
+/// Fails for want of memory alone; the book is then as before.
+pub fn control_at(alloc: Global, book: &mut Book, front: Front) -> Result<Bytes, AllocError>
+    requires { IsSoundNext front.next }
+    ensures reply { IfOk result (λ reply. reply ≡ continue_bytes front.is_due
+        ++ (next_outcome (documents_of book.old) book.old.names front.next).reply) }
+    ensures documents { IfOk result (λ _. documents_of book.new
+        ≡ (next_outcome (documents_of book.old) book.old.names front.next).documents) }
+    ensures names { book.new.names ≡ book.old.names }
+    ensures err { OnErr result (book.new ≡ book.old) }
+{
+    let Front { is_due, next } = front;
+    let due = continue_of(alloc, is_due)?;
+    reply_to(alloc, book, next, due)
+}
+
+/// `100 Continue` where it is due, or nothing.
+///
+/// Fails for want of memory alone.
+pub fn continue_of(alloc: Global, is_due: bool) -> Result<Bytes, AllocError>
+    ensures { IfOk result (λ bytes. bytes ≡ continue_bytes is_due) }
+{
+    Bytes::copy_of(alloc, continue_text(is_due))
 }
 
 fn continue_text(is_due: bool) -> &'static [u8]

@@ -12,17 +12,19 @@ use unit_types::{Addr, Bytes};
 /// Bytes of a control request's content. A longer one is refused with 413 (RFC 9110, section 15.5.14).
 const CONTENT_LIMIT: u64 = 1_048_576;
 
-/// What stands at the front of the bytes, and whether `100 Continue` is due before its reply.
+/// What stands at the front of a control connection's bytes, and whether `100 Continue` is due before its reply.
 #[derive(Debug, Drop)]
-pub(crate) struct Front {
-    pub(crate) is_due: bool,
-    pub(crate) next: Next,
+pub struct Front {
+    /// Whether `100 Continue` is due.
+    pub is_due: bool,
+    /// The request, or why there is none.
+    pub next: Next,
 }
 
-/// The front of bytes behind which the input ended.
+/// The front of the bytes of a control connection, which end there.
 ///
 /// Fails for want of memory alone.
-pub(crate) fn front_of(alloc: Global, bytes: &[u8]) -> Result<Front, AllocError>
+pub fn front_of(alloc: Global, bytes: &[u8]) -> Result<Front, AllocError>
     ensures due { IfOk result (λ front. front.is_due
         ≡ (next_unit bytes.now true content_limit).continue_due) }
     ensures next { IfOk result (λ front. front.next

@@ -20,7 +20,8 @@ pub(crate) fn keys_of(alloc: Global, target: &[u8]) -> Result<Option<Vec<Bytes>>
     keys_in(alloc, without_final_slash(raw_path_of(target)))
 }
 
-fn without_final_slash(path: &[u8]) -> &[u8]
+/// The path without one `/` at its end.
+pub fn without_final_slash(path: &[u8]) -> &[u8]
     ensures { result.now ≡ without_final_slash path.now }
 {
     match path {

@@ -4,7 +4,7 @@ use conf_validate::Invalid;
 
 /// Why a control request is refused.
 #[derive(Debug, Drop)]
-pub(crate) enum Refusal {
+pub enum Refusal {
     /// The bytes are no request that is served; the reader refuses them with this status.
     BadRequest(u16),
     /// The path is another one, a key is no text, or there is no such value or parent.

@@ -1,5 +1,5 @@
 //! The bytes of replies.
-ghost use Rattle.std.specs.Prelude.{◌≡◌, ◌++◌, ◌<◌, IfOk, OnOk, IsUtf8};
+ghost use Rattle.std.specs.Prelude.{◌≡◌, ◌++◌, ◌<◌, IfOk, OnErr, OnOk, IsUtf8};
 ghost use Rattle.control_api.specs.Plans.{IsSoundRefusal};
 ghost use Rattle.control_api.specs.Replies as spec;
 
@@ -14,10 +14,10 @@ use unit_types::{Bytes, Field, Fields, Reply};
 /// The content behind an accepted change.
 pub(crate) const DONE: &[u8] = b"{\"success\":\"Reconfiguration done.\"}";
 
-/// Puts a reply with this content behind `out`; the content is left out where `head`, the request's method, is HEAD.
+/// Puts a reply with this content behind `out`; the content is left out where `head`: the request's method is HEAD.
 ///
-/// Fails for want of memory alone.
-pub(crate) fn put_reply(
+/// Fails for want of memory alone; `out` is then as before.
+pub fn put_reply(
     alloc: Global,
     head: bool,
     status: u16,
@@ -25,7 +25,8 @@ pub(crate) fn put_reply(
     out: &mut Bytes,
 ) -> Result<(), AllocError>
     requires { status < 1000 }
-    ensures { OnOk result (out.new ≡ out.old ++ spec.reply_bytes head status body) }
+    ensures ok { OnOk result (out.new ≡ out.old ++ spec.reply_bytes head status body) }
+    ensures err { OnErr result (out.new ≡ out.old) }
 {
     let reply = json_reply(alloc, status, body)?;
     write_http(alloc, &reply, head, true, out)
@@ -46,17 +47,18 @@ fn json_reply(alloc: Global, status: u16, body: Bytes) -> Result<Reply, AllocErr
     })
 }
 
-/// Puts the reply of a refusal behind `out`.
+/// Puts the reply of a refusal behind `out`, without its content where `head`.
 ///
-/// Fails for want of memory alone.
-pub(crate) fn put_refusal(
+/// Fails for want of memory alone; `out` is then as before.
+pub fn put_refusal(
     alloc: Global,
     head: bool,
     refusal: Refusal,
     out: &mut Bytes,
 ) -> Result<(), AllocError>
     requires { IsSoundRefusal refusal }
-    ensures { OnOk result (out.new ≡ out.old ++ spec.refusal_bytes head refusal) }
+    ensures ok { OnOk result (out.new ≡ out.old ++ spec.refusal_bytes head refusal) }
+    ensures err { OnErr result (out.new ≡ out.old) }
 {
     let status = status_of(&refusal);
     let text = text_of(alloc, refusal)?;

@@ -1,0 +1,9 @@
+//! The control interface with the status of a running program at the path `/status`.
+#![tactic(auto)]
+
+mod connection;
+mod laws;
+mod text;
+
+pub use connection::control_status;
+pub use laws::decided_requests_stay;
