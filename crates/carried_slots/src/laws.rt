@@ -62,12 +62,12 @@ pub fn a_run_is_gathered<T>()
 {}
 
 /// Which values are right for which places of a run.
-pub trait Rightly<T> {
+pub trait RightValues<T> {
     ghost right: { ℕ → T → Type 0 };
 }
 
 /// What is right at home at each place of a run is right in the list that is gathered.
-pub fn what_is_gathered_is_right<T, J: Rightly<T>>()
+pub fn what_is_gathered_is_right<T, J: RightValues<T>>()
     ensures { RightGatheringLaw T J.right }
 {}
 

@@ -9,9 +9,9 @@
 mod laws;
 
 pub use laws::{
-    Rightly, a_carried_slot_has_a_value, a_chunk_comes_with_its_slot, a_chunk_goes_with_its_slot,
-    a_run_goes_home, a_run_is_gathered, a_run_is_taken, a_run_is_without,
-    a_slot_comes_to_the_front, a_slot_is_known, a_slot_is_without, an_empty_slot_goes,
-    another_run_stays, free_slots_stay, runs_lie_apart, slots_are_taken, slots_become_others,
-    slots_have_one_list_of_values, what_is_gathered_is_right,
+    RightValues, a_carried_slot_has_a_value, a_chunk_comes_with_its_slot,
+    a_chunk_goes_with_its_slot, a_run_goes_home, a_run_is_gathered, a_run_is_taken,
+    a_run_is_without, a_slot_comes_to_the_front, a_slot_is_known, a_slot_is_without,
+    an_empty_slot_goes, another_run_stays, free_slots_stay, runs_lie_apart, slots_are_taken,
+    slots_become_others, slots_have_one_list_of_values, what_is_gathered_is_right,
 };

@@ -25,9 +25,9 @@ sum_of_kind counts kind =
     + slice_index counts (place_of 2 kind)
     + slice_index counts (place_of 3 kind)
 
--- JSON (RFC 8259): connections that have ended, and requests by how they ended. App: an application answered; Busy: there was
--- no place; Cut: the client ended inside a request; Gone: the client had gone; Late: no answer came in time; Memory: there was
--- no memory; Own: the router answered by itself.
+-- JSON (RFC 8259): connections that have ended, and ends of requests by kind. App: an application answered; Busy: turned away,
+-- most often for want of a place; Cut: the client ended inside a content; Gone: the client had gone, also between two requests;
+-- Late: no answer came in time; Memory: there was no memory; Own: the server answered by itself.
 abbrev pub status_text : List ℕ → List ℕ
 status_text counts =
     codes "{\"connections\":"

@@ -1,4 +1,4 @@
--- A message that is sent and taken, or withdrawn, on a machine at rest.
+-- A message that is sent and taken, or cancelled, on a machine at rest.
 use Rattle.std.proofs.Common.{◌≡◌, ◌≢◌, ℕ, zero, suc, ◌+◌, ◌-◌, ◌*◌, ◌%◌, ◌==◌, ◌≤◌, ◌<◌, ◌⊎◌, inl, inr, List, [], ◌∷◌, ◌++◌, length, map, get_or, refl, sym, ap, ap₂, subst, ◌∙◌, arith}
 use Rattle.std.proofs.lemmas.Bool.{cases_Bool, cases_eq, cases_lt}
 use Rattle.std.proofs.Math.Nat.{add-mod_right}
@@ -32,7 +32,7 @@ use Rattle.plain_fabric.proofs.Runs.{Leads, done, then, joined, so}
 use Rattle.plain_fabric.proofs.UnderWay.{Lane, HasLane, HasOwner, Under, got, run_set, part_set, armed, pushed, popped, settled, given, claimed, released}
 use Rattle.plain_fabric.specs.AtRest.{HasPassed, free_list, turn_of}
 use Rattle.plain_fabric.specs.declared.message.Message.{Message}
-use Rattle.plain_fabric.specs.Schedule.{item_of_message, place_of_message, place_behind, run_of_message, claims, releases, sending, taking, withdrawing}
+use Rattle.plain_fabric.specs.Schedule.{item_of_message, place_of_message, place_behind, run_of_message, claims, releases, sending, taking, cancelling}
 
 -- ---- turns
 
@@ -316,9 +316,9 @@ module _ (base : Core) (m : Message) where
         (joined (Under base q i (settled_lane [] (WithSeat m.to)) high high (Seat m.to) (settled_seats m.to) base.next) (IsOver m.to) core2 (releases m.to run) (GiveItem m.to q i (place_behind base.shape m) ∷ [])
         (freed (settled_lane [] (WithSeat m.to)) m.to core2 takers_role now) (gives m.to)))
 
-    -- the steps of a message that is withdrawn
-    pub withdrawing_leads : (core : Core) → IsSent core → MaySettle core m.from m.queue (item_of_message base.shape m) m.stream → Leads core (withdrawing base.shape m) (IsOver m.from)
-    withdrawing_leads core at may =
+    -- the steps of a message that is cancelled
+    pub cancelling_leads : (core : Core) → IsSent core → MaySettle core m.from m.queue (item_of_message base.shape m) m.stream → Leads core (cancelling base.shape m) (IsOver m.from)
+    cancelling_leads core at may =
         let core1 : Core = after_step core (Settle m.from q i m.stream) in
         let line : List Entry = entry place ∷ [] in
         let s = settled base q i sent_lane low high (MessageOf q i) sent_seats base.next core at m.from m.stream can.some refl (fits_in core at.shape) refl (omega arith) may in

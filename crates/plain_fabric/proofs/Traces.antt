@@ -23,7 +23,7 @@ use Rattle.plain_fabric.proofs.Passing.{one_turn_more}
 use Rattle.plain_fabric.proofs.Runs.{Leads, done, joined, so}
 use Rattle.plain_fabric.proofs.Visits.{answered, hung_up}
 use Rattle.plain_fabric.specs.AtRest.{HasPassed, HasNothingOpen, IsAtRest, free_list, turn_of}
-use Rattle.plain_fabric.specs.Laws.{AllCanPass, CanPass, IsEarly, IsPlain, OpenedLaw, TraceLaw, parts_of_all}
+use Rattle.plain_fabric.specs.Laws.{AllCanPass, CanPass, IsEarly, HasOnePair, OpenedLaw, TraceLaw, parts_of_all}
 use Rattle.plain_fabric.specs.Schedule.{Passed, Answered, HungUp, parts_in, steps_of, trace_from, trace_of}
 
 -- ---- at first

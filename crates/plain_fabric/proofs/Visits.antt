@@ -29,13 +29,13 @@ use Rattle.unit_model.specs.declared.machine.Seat.{Seat as SeatLists}
 use Rattle.unit_model.specs.declared.machine.Step.{Step}
 use Rattle.unit_model.specs.declared.machine.Step.TheVariants.{Draw}
 use Rattle.unit_model.specs.declared.shape.Shape.{Shape}
-use Rattle.plain_fabric.proofs.Passing.{CanSend, IsReady, IsSent, IsOver, sent_lane, sending_leads, taking_leads, withdrawing_leads, passed_here, passed_beside, all_free}
+use Rattle.plain_fabric.proofs.Passing.{CanSend, IsReady, IsSent, IsOver, sent_lane, sending_leads, taking_leads, cancelling_leads, passed_here, passed_beside, all_free}
 use Rattle.plain_fabric.proofs.Runs.{Leads, done, then, joined, so}
 use Rattle.plain_fabric.proofs.Streams.{Goes, any_last, goes_first, goes_on, goes_out, cancelled_again, number_is, last_is, none_sent, unclosed_next, unlast_next, unposted}
 use Rattle.plain_fabric.specs.AtRest.{HasPassed, HasNothingOpen, IsAtRest}
 use Rattle.plain_fabric.specs.Laws.{AllFit, AnsweredLaw, FitsSegment, HungUpLaw, IsEarly}
 use Rattle.plain_fabric.specs.declared.message.Message.{Message}
-use Rattle.plain_fabric.specs.Schedule.{item_of_message, answered_steps, hung_up_steps, part_message, part_steps, request_message, sending, taking, withdrawing}
+use Rattle.plain_fabric.specs.Schedule.{item_of_message, answered_steps, hung_up_steps, part_message, part_steps, request_message, sending, taking, cancelling}
 
 -- ---- one engine and one worker
 
@@ -234,10 +234,10 @@ module _ (shape : Shape) (engines : shape.engines ≡ 1) (workers : shape.worker
         })
 
     -- or it is cancelled
-    cancelled_leads : Leads base (sending base.shape request ++ withdrawing base.shape request) (λ core. IsAtRest core (drawn + 1) sent)
-    cancelled_leads = so (IsOver base request 0) (λ core. IsAtRest core (drawn + 1) sent) base (sending base.shape request ++ withdrawing base.shape request)
-        (joined (IsSent base request) (IsOver base request 0) base (sending base.shape request) (withdrawing base.shape request) (sending_leads base request can may_post)
-        (λ core at. withdrawing_leads base request can core at (may_cancel core at)))
+    cancelled_leads : Leads base (sending base.shape request ++ cancelling base.shape request) (λ core. IsAtRest core (drawn + 1) sent)
+    cancelled_leads = so (IsOver base request 0) (λ core. IsAtRest core (drawn + 1) sent) base (sending base.shape request ++ cancelling base.shape request)
+        (joined (IsSent base request) (IsOver base request 0) base (sending base.shape request) (cancelling base.shape request) (sending_leads base request can may_post)
+        (λ core at. cancelling_leads base request can core at (may_cancel core at)))
         (λ core over.
         let role : role_of base 0 ≡ 0 = engine_role shape engines workers base has.stands.shape_is in
         let seats : core.seats ≡ noted (Cancelled (drawn + 1)) (noted (Posted (drawn + 1)) (noted (Drawn (drawn + 1)) engine)) ∷ worker ∷ [] =
@@ -348,6 +348,6 @@ hung_up core drawn sent size rest early can =
     let core1 : Core = after_step core (Draw 0 (drawn + 1)) in
     let m : Message = request_message drawn size in
     let has = first.1 in
-    let run : Leads core1 (sending core1.shape m ++ withdrawing core1.shape m) (λ c. IsAtRest c (drawn + 1) sent) = cancelled_leads core.shape rest.engines rest.workers core1 drawn sent size (seat_of core 0) (seat_of core 1) has early.few_drawn can in
-    then (λ c. IsAtRest c (drawn + 1) sent) core (Draw 0 (drawn + 1)) (sending core.shape m ++ withdrawing core.shape m) first.0
-    (subst (λ (s : Shape). Leads core1 (sending s m ++ withdrawing s m) (λ c. IsAtRest c (drawn + 1) sent)) has.stands.shape_is run)
+    let run : Leads core1 (sending core1.shape m ++ cancelling core1.shape m) (λ c. IsAtRest c (drawn + 1) sent) = cancelled_leads core.shape rest.engines rest.workers core1 drawn sent size (seat_of core 0) (seat_of core 1) has early.few_drawn can in
+    then (λ c. IsAtRest c (drawn + 1) sent) core (Draw 0 (drawn + 1)) (sending core.shape m ++ cancelling core.shape m) first.0
+    (subst (λ (s : Shape). Leads core1 (sending s m ++ cancelling s m) (λ c. IsAtRest c (drawn + 1) sent)) has.stands.shape_is run)

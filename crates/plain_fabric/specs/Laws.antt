@@ -42,7 +42,7 @@ pub record IsEarly (drawn sent : ℕ) : Type 0 where
 -- ---- the laws
 
 -- one engine and one worker
-pub record IsPlain (shape : Shape) : Type 0 where
+pub record HasOnePair (shape : Shape) : Type 0 where
   pub valid : IsValid shape
   pub engines : shape.engines ≡ 1
   pub workers : shape.workers ≡ 1
@@ -68,7 +68,7 @@ HungUpLaw = (core : Core) (drawn sent size : ℕ)
     → LeadsToRest core (hung_up_steps core.shape drawn size) (drawn + 1) sent
 
 abbrev pub OpenedLaw : Type 0
-OpenedLaw = (shape : Shape) → IsPlain shape → IsAtRest (opened_core shape) 0 0
+OpenedLaw = (shape : Shape) → HasOnePair shape → IsAtRest (opened_core shape) 0 0
 
 abbrev pub parts_of_all : List Passed → ℕ
 parts_of_all [] = 0
@@ -76,14 +76,14 @@ parts_of_all (passed ∷ more) = parts_in passed + parts_of_all more
 
 -- the trace of any requests is a legal run from the opened core, and leads to rest
 abbrev pub TraceLaw : Type 0
-TraceLaw = (shape : Shape) (requests : List Passed) → IsPlain shape → AllCanPass requests
+TraceLaw = (shape : Shape) (requests : List Passed) → HasOnePair shape → AllCanPass requests
     → length requests ≤ 2 ^ 48
     → LeadsToRest (opened_core shape) (trace_of shape requests)
     (length requests) (parts_of_all requests)
 
 -- and no stream is left open there
 abbrev pub NoneLeftOpen : Type 0
-NoneLeftOpen = (shape : Shape) (requests : List Passed) → IsPlain shape → AllCanPass requests
+NoneLeftOpen = (shape : Shape) (requests : List Passed) → HasOnePair shape → AllCanPass requests
     → length requests ≤ 2 ^ 48
     → (stream : ℕ)
     → is_left_open (after_steps (opened_core shape) (trace_of shape requests)) stream ≡ false

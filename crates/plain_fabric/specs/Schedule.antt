@@ -61,8 +61,8 @@ taking shape m =
 
 -- the sender settles its own message and releases the chunks; the taker pops the item and gives it
 -- back
-abbrev pub withdrawing : Shape → Message → List Step
-withdrawing shape m =
+abbrev pub cancelling : Shape → Message → List Step
+cancelling shape m =
     Settle m.from m.queue (item_of_message shape m) m.stream
     ∷ releases m.from (run_of_message shape m)
     ++ Pop m.to m.queue (item_of_message shape m) (place_of_message shape m)
@@ -114,7 +114,7 @@ answered_steps shape drawn sent size sizes =
 abbrev pub hung_up_steps : Shape → ℕ → ℕ → List Step
 hung_up_steps shape drawn size =
     let m = request_message drawn size in
-    Draw 0 m.stream ∷ sending shape m ++ withdrawing shape m
+    Draw 0 m.stream ∷ sending shape m ++ cancelling shape m
 
 -- ---- requests one after another
 

@@ -1,7 +1,7 @@
 //! The steps of a request, from the engine to the worker and back.
 ghost use Rattle.std.specs.Prelude.{◌≡◌, ◌+◌, ◌++◌, ◌<◌, ◌≤◌, ◌^◌, length, IfOk, OnOk};
-ghost use Rattle.plain_fabric.specs.Laws.{IsPlain};
-ghost use Rattle.plain_fabric.specs.Schedule.{answered_steps, claims, hung_up_steps, part_steps, place_behind, releases, sending, taking, withdrawing};
+ghost use Rattle.plain_fabric.specs.Laws.{HasOnePair};
+ghost use Rattle.plain_fabric.specs.Schedule.{answered_steps, claims, hung_up_steps, part_steps, place_behind, releases, sending, taking, cancelling};
 
 use crate::message::Message;
 use std::alloc::{AllocError, Global};
@@ -39,7 +39,7 @@ fn release(steps: &mut Vec<Step>, seat: u32, run: Run) -> Result<(), AllocError>
 
 // The sender's steps of a message.
 fn send(steps: &mut Vec<Step>, shape: &Shape, message: &Message) -> Result<(), AllocError>
-    requires plain { IsPlain shape.now }
+    requires plain { HasOnePair shape.now }
     requires early { place_behind shape.now message.now < 2 ^ 63 }
     ensures { OnOk result (steps.new.items ≡ steps.old.items ++ sending shape.now message.now) }
 {
@@ -89,7 +89,7 @@ fn send(steps: &mut Vec<Step>, shape: &Shape, message: &Message) -> Result<(), A
 
 // The taker's steps of a message.
 fn take(steps: &mut Vec<Step>, shape: &Shape, message: &Message) -> Result<(), AllocError>
-    requires plain { IsPlain shape.now }
+    requires plain { HasOnePair shape.now }
     requires early { place_behind shape.now message.now < 2 ^ 63 }
     ensures { OnOk result (steps.new.items ≡ steps.old.items ++ taking shape.now message.now) }
 {
@@ -123,11 +123,11 @@ fn take(steps: &mut Vec<Step>, shape: &Shape, message: &Message) -> Result<(), A
 }
 
 // The steps of a message that its sender settles.
-fn withdraw(steps: &mut Vec<Step>, shape: &Shape, message: &Message) -> Result<(), AllocError>
-    requires plain { IsPlain shape.now }
+fn cancel(steps: &mut Vec<Step>, shape: &Shape, message: &Message) -> Result<(), AllocError>
+    requires plain { HasOnePair shape.now }
     requires early { place_behind shape.now message.now < 2 ^ 63 }
     ensures { OnOk result
-        (steps.new.items ≡ steps.old.items ++ withdrawing shape.now message.now) }
+        (steps.new.items ≡ steps.old.items ++ cancelling shape.now message.now) }
 {
     let Message {
         from,
@@ -168,7 +168,7 @@ fn send_parts(
     number: u32,
     sizes: &[u32],
 ) -> Result<(), AllocError>
-    requires plain { IsPlain shape.now }
+    requires plain { HasOnePair shape.now }
     requires early { (drawn < 2 ^ 48) × (sent + length sizes.now < 2 ^ 61) }
     requires few { number + length sizes.now ≤ 4096 }
     ensures { OnOk result
@@ -198,7 +198,7 @@ pub fn answered_steps(
     size: u32,
     sizes: &[u32],
 ) -> Result<Vec<Step>, AllocError>
-    requires plain { IsPlain shape.now }
+    requires plain { HasOnePair shape.now }
     requires early { (drawn < 2 ^ 48) × (sent + length sizes.now < 2 ^ 61) }
     requires few { length sizes.now ≤ 4096 }
     ensures { IfOk result
@@ -225,7 +225,7 @@ pub fn hung_up_steps(
     drawn: u64,
     size: u32,
 ) -> Result<Vec<Step>, AllocError>
-    requires plain { IsPlain shape.now }
+    requires plain { HasOnePair shape.now }
     requires early { drawn < 2 ^ 48 }
     ensures { IfOk result (λ steps. steps.items ≡ hung_up_steps shape.now drawn size) }
 {
@@ -236,6 +236,6 @@ pub fn hung_up_steps(
         stream: request.stream,
     })?;
     send(&mut steps, shape, &request)?;
-    withdraw(&mut steps, shape, &request)?;
+    cancel(&mut steps, shape, &request)?;
     Ok(steps)
 }
