@@ -3,6 +3,8 @@
 
 mod connection;
 mod laws;
+#[cfg(test)]
+mod tests;
 mod text;
 
 pub use connection::control_status;

@@ -15,3 +15,6 @@ pub use book::StatusBook;
 pub use looks::Looks;
 pub use seat::{CountSeat, LookSeat};
 pub use view::{EngineSums, Reading, StatusView};
+
+#[cfg(test)]
+mod tests;
