@@ -1,1 +1,3 @@
+mod CheckLemmas
+mod EndLemmas
 mod OnceLemmas
