@@ -1,3 +1,4 @@
 mod CheckLemmas
 mod EndLemmas
 mod OnceLemmas
+mod TextLemmas
