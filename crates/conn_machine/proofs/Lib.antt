@@ -6,6 +6,8 @@ mod FrontLaws
 mod NamedTurns
 mod NeedLemmas
 mod PlainLemmas
+mod EndedLemmas
+mod ShowsLemmas
 mod SameLemmas
 mod StepLemmas
 mod TurnLemmas

@@ -9,6 +9,7 @@ use Rattle.conf_validate.specs.Configuration.{Configuration, handler_at}
 use Rattle.route_match.specs.Target.{location_of, outcome_of}
 use Rattle.route_match.specs.declared.target.Target.{Target}
 use Rattle.route_match.specs.declared.target.Target.TheVariants.{App, Return, Status}
+use Rattle.route_match.specs.declared.walk.Outcome.{Outcome}
 use Rattle.http_front.specs.Message.{is_head_request, is_last_request}
 use Rattle.access_log.specs.Line.{log_line}
 use Rattle.header_rewrite.specs.ResponseHeaders.{fielded_of}
@@ -50,6 +51,15 @@ reply_by c conf r by (Status status) = error_reply status
 
 unfoldable pub reply_to : Connection → Configuration → Request → Reply
 reply_to c conf r = let outcome = outcome_of conf c.listener r in reply_by c conf r outcome.step outcome.target
+
+-- the reply that the server gives itself to a request that came by this outcome; None where it goes to an application
+abbrev pub own_reply_by : Configuration → Option ℕ → Request → Target → Option Reply
+own_reply_by conf by r (App app timeout) = None
+own_reply_by conf by r (Return step status) = Some (fielded_of conf by r (return_reply conf step status r))
+own_reply_by conf by r (Status status) = Some (error_reply status)
+
+abbrev pub own_reply : Configuration → Outcome → Request → Option Reply
+own_reply conf outcome r = own_reply_by conf outcome.step r outcome.target
 
 -- ---- their bytes
 

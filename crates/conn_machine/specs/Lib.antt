@@ -3,6 +3,7 @@ pub mod Asking
 pub mod Calls
 pub mod Laws
 pub mod Sessions
+pub mod Shows
 pub mod States
 pub mod Steps
 pub mod Turns

@@ -1,10 +1,12 @@
 //! The replies that the server gives itself, and behind which answers a connection closes.
-ghost use Rattle.std.specs.Prelude.{◌≡◌, ◌<◌, IfOk, option_map};
+ghost use Rattle.std.specs.Prelude.{◌≡◌, ◌<◌, IfOk, IfSome, option_map};
+ghost use Rattle.route_match.specs.There.{IsOutcome};
 ghost use Rattle.conn_machine.specs.Answers as spec;
 
 use conf_validate::Conf;
+use header_rewrite::fielded;
 use http_front::{error_reply, is_last_request};
-use route_match::location_of;
+use route_match::{Outcome, Target, location_of};
 use std::alloc::{AllocError, Global};
 use unit_types::{Bytes, Field, Fields, Reply, Request};
 
@@ -47,6 +49,31 @@ fn location_fields(alloc: Global, location: Option<Bytes>) -> Result<Fields, All
         list.push(Field { name, value })?;
     }
     Ok(Fields::of(list))
+}
+
+/// The reply that the server gives itself to a request that came by this outcome; None where it goes to an application.
+///
+/// Fails for want of memory alone.
+pub(crate) fn own_reply(
+    alloc: Global,
+    conf: &Conf,
+    outcome: Outcome,
+    request: &Request,
+) -> Result<Option<Reply>, AllocError>
+    requires { IsOutcome conf.now request.now outcome }
+    ensures reply { IfOk result (λ reply. reply ≡ spec.own_reply conf.now outcome request.now) }
+    ensures status { IfOk result (λ reply. IfSome reply (λ r. r.status < 1000)) }
+{
+    // Each configuration keeps the ranges of its numbers.
+    conf.is_kept();
+    match outcome.target {
+        Target::App { .. } => Ok(None),
+        Target::Return { step, status } => {
+            let reply = return_reply(alloc, conf, step, status, request)?;
+            Ok(Some(fielded(alloc, conf, outcome.step, request, &reply)?))
+        }
+        Target::Status(status) => Ok(Some(error_reply(alloc, status)?)),
+    }
 }
 
 /// Whether the connection closes behind the answer to a request, of which `left` may come with this one, or behind the

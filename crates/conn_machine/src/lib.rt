@@ -2,7 +2,12 @@
 #![tactic(auto)]
 
 mod answers;
+mod ending;
 mod laws;
+mod machine;
+mod met;
+mod pending;
+mod queries;
 mod receipt;
 #[cfg(test)]
 mod tests;
@@ -12,4 +17,6 @@ pub use laws::{
     answers_without_changes, laws_of_calls, laws_of_ends, laws_of_sessions, laws_of_steps,
     laws_of_turns,
 };
+pub use machine::Machine;
+pub use pending::Pending;
 pub use receipt::{Kind, Need, Receipt, Receipts, Why};

@@ -1,22 +1,24 @@
 -- A reader's step by what it keeps is the step by all that it has read.
-use Rattle.std.proofs.Common.{ℕ, ◌≡◌, ◌+◌, refl, sym, ap, ◌∙◌, subst, List, [], ◌++◌, drop, Bool, true, false, not, ◌&&◌, if◌then◌else◌, Option, Some, None, append_assoc, append-nil, Result, Ok, Err, IfOk, OnOk, OnErr}
+use Rattle.std.proofs.Common.{ℕ, ◌≡◌, ◌+◌, refl, sym, ap, ◌∙◌, subst, List, [], ◌++◌, drop, take, Bool, true, false, not, ◌&&◌, if◌then◌else◌, Option, Some, None, append_assoc, append-nil, length, length-append, arith, ◌≤◌, Result, Ok, Err, IfOk, OnOk, OnErr}
+use Rattle.std.proofs.lemmas.List.{take-append-le}
 use Rattle.std.specs.Result.{is_ok}
 use Rattle.unit_types.specs.declared.message.Addr.{Addr}
 use Rattle.http_front.specs.declared.next_unit.Next.TheVariants as Answer
+use Rattle.http_front.specs.declared.reader.Place.{Place}
 use Rattle.http_front.specs.declared.search.Search.{Search}
 use Rattle.http_front.specs.Front.{head_begun}
 use Rattle.http_front.specs.NextUnit.{Found, request, bad, cut, finished, wait, NextUnit, next_unit}
 use Rattle.http_front.specs.Progress.{IsSearched}
 use Rattle.http_front.specs.Reading.{Reading, reading_of, limit_or, kept_limit, answer_at, behind_found, next_answer, next_reading}
 use Rattle.http_front.specs.Stands.{found_past, unit_past, Stands, head_unit}
-use Rattle.http_front.specs.Kept.{head, Kept, unit_at, begun_at, Counts, HasRead, fed, at_end, unit_of, asks_of, kept_answer, kept_behind, limited, kept_next}
+use Rattle.http_front.specs.Kept.{head, Kept, Mark, marked, unit_at, begun_at, Counts, HasRead, fed, at_end, unit_of, asks_of, kept_answer, kept_behind, limited, kept_next}
 use Rattle.http_front.proofs.BlankLemmas.{begun_past, blank_gone}
 use Rattle.http_front.proofs.StandsLemmas.{stands_whole, stands_fed, stands_blank, stands_now, stands_left}
 
 -- what is kept where no content is
-abbrev pub head_kept : Addr → Addr → List ℕ → Bool → Option ℕ → Bool → Kept
-head_kept from to bytes ended limit is_told =
-    record { from = from; to = to; bytes = bytes; stage = head; ended = ended; limit = limit; is_told = is_told }
+abbrev pub head_kept : Mark → Addr → Addr → List ℕ → Bool → Option ℕ → Bool → Kept
+head_kept mark from to bytes ended limit is_told =
+    record { from = from; to = to; bytes = bytes; stage = head; ended = ended; limit = limit; is_told = is_told; mark = mark }
 
 counts_now : (kept : Option ℕ) (limit : ℕ) → Counts kept (limit_or kept limit)
 counts_now None limit = tt
@@ -36,9 +38,9 @@ alike_is r k is = λ i. record { from = is.from i; to = is.to i; unread = r.unre
 
 -- ---- a reader at the begin of a request, more bytes, and their end
 
-pub has_read_whole : (from to : Addr) (bytes kept : List ℕ) (ended : Bool) → bytes ≡ kept
-    → HasRead (reading_of from to bytes ended) (head_kept from to kept ended None false)
-has_read_whole from to bytes kept ended same = record {
+pub has_read_whole : (mark : Mark) (from to : Addr) (bytes kept : List ℕ) (ended : Bool) → bytes ≡ kept
+    → HasRead (reading_of from to bytes ended) (head_kept mark from to kept ended None false)
+has_read_whole mark from to bytes kept ended same = record {
   from = refl;
   to = refl;
   ended = refl;
@@ -73,9 +75,9 @@ has_read_end r k is = record {
 }
 
 -- the empty lines are let go that a search has passed
-pub has_read_blank : (s : Search) (from to : Addr) (bytes : List ℕ) (ended : Bool) (limit : Option ℕ) (is_told : Bool) (r : Reading) → IsSearched s bytes
-    → HasRead r (head_kept from to bytes ended limit is_told) → HasRead r (head_kept from to (drop s.blank bytes) ended limit is_told)
-has_read_blank s from to bytes ended limit is_told r searched is =
+pub has_read_blank : (s : Search) (mark : Mark) (from to : Addr) (bytes : List ℕ) (ended : Bool) (limit : Option ℕ) (is_told : Bool) (r : Reading) → IsSearched s bytes
+    → HasRead r (head_kept mark from to bytes ended limit is_told) → HasRead r (head_kept mark from to (drop s.blank bytes) ended limit is_told)
+has_read_blank s mark from to bytes ended limit is_told r searched is =
     let left = drop s.blank bytes in
     let whole : bytes ≡ searched.blank ++ left = searched.whole ∙ ap (λ rest. searched.blank ++ rest) (sym (blank_gone s bytes searched)) in
     record {
@@ -153,7 +155,7 @@ has_read_next r k limit is =
     by_found lim narrower (request m used) =
         let at = limit_or k.limit limit in
         let stands = is.stands at (counts_now k.limit limit) in
-        has_read_whole k.from k.to (drop (stands.gone + used) r.unread) (drop used k.bytes) k.ended
+        has_read_whole k.mark k.from k.to (drop (stands.gone + used) r.unread) (drop used k.bytes) k.ended
         (stands_left r.unread at (unit_at k.stage at) k.bytes used stands)
     by_found lim narrower (bad status) = with_limit lim k.is_told narrower
     by_found lim narrower cut = with_limit lim k.is_told narrower
@@ -213,3 +215,68 @@ next_ended k limit = by_asks (asks_of k limit)
 pub step_ended : {A E : Type 0} (o : Result A E) (old new : Kept) (limit : ℕ) → OnOk o (new ≡ kept_next old limit) → OnErr o (new ≡ old) → new.ended ≡ old.ended
 step_ended (Ok v) old new limit ok err = ap (λ (k : Kept). k.ended) ok ∙ next_ended old limit
 step_ended (Err e) old new limit ok err = ap (λ (k : Kept). k.ended) err
+
+-- a step leaves where it was marked
+found_marked : (k : Kept) (f : Found) → marked (kept_behind k f) ≡ marked k
+found_marked k (request m used) = refl
+found_marked k (bad status) = refl
+found_marked k cut = refl
+found_marked k finished = refl
+found_marked k wait = refl
+
+next_marked : (k : Kept) (limit : ℕ) → marked (kept_next k limit) ≡ marked k
+next_marked k limit = by_asks (asks_of k limit)
+  where
+    by_asks : (t : Bool) → marked (if t then record (limited k limit) { is_told = true } else kept_behind (limited k limit) (unit_of k limit).found) ≡ marked k
+    by_asks true = refl
+    by_asks false = found_marked (limited k limit) (unit_of k limit).found
+
+pub step_marked : {A E : Type 0} (o : Result A E) (old new : Kept) (limit : ℕ) → OnOk o (new ≡ kept_next old limit) → OnErr o (new ≡ old) → marked new ≡ marked old
+step_marked (Ok v) old new limit ok err = ap marked ok ∙ next_marked old limit
+step_marked (Err e) old new limit ok err = ap marked err
+
+-- where a reader with these bytes is marked
+abbrev pub mark_at : List ℕ → Place → Mark
+mark_at bytes place = record {
+  bytes = drop place.used (take place.len bytes);
+  ended = place.ended;
+  limit = place.limit;
+  is_told = place.is_told;
+}
+
+-- another mark
+pub remarked : (r : Reading) (k : Kept) (mark : Mark) → HasRead r k → HasRead r (record k { mark = mark })
+remarked r k mark is = record {
+  from = is.from;
+  to = is.to;
+  ended = is.ended;
+  limit = is.limit;
+  is_told = is.is_told;
+  stands = is.stands;
+  begun = is.begun;
+}
+
+-- bytes behind the others leave where it was marked
+pub fed_within : (is_fed : Bool) (items piece : List ℕ) (n : ℕ) → n ≤ length items → n ≤ length (if is_fed then items ++ piece else items)
+fed_within true items piece n within = simp length-append (omega (arith, within))
+fed_within false items piece n within = within
+
+mark_fed : (is_fed : Bool) (items piece : List ℕ) (n : ℕ) → n ≤ length items → take n (if is_fed then items ++ piece else items) ≡ take n items
+mark_fed true items piece n within = take-append-le n items piece within
+mark_fed false items piece n within = refl
+
+pub marked_fed : (is_fed : Bool) (items piece : List ℕ) (place : Place) → place.len ≤ length items
+    → (from to : Addr) (bytes : List ℕ) (ended : Bool) (limit : Option ℕ) (is_told : Bool)
+    → marked (head_kept (mark_at (if is_fed then items ++ piece else items) place) from to bytes ended limit is_told)
+    ≡ marked (head_kept (mark_at items place) from to bytes ended limit is_told)
+marked_fed is_fed items piece place within from to bytes ended limit is_told =
+    ap (λ (front : List ℕ). marked (head_kept (record { bytes = drop place.used front; ended = place.ended; limit = place.limit; is_told = place.is_told }) from to bytes ended limit is_told))
+    (mark_fed is_fed items piece place.len within)
+
+-- where it was marked is forgotten
+pub forgotten : (r : Reading) (old new : Kept) → new ≡ record old { mark = new.mark } → HasRead r old → HasRead r new
+forgotten r old new same is = subst (λ (k : Kept). HasRead r k) (sym same) (remarked r old new.mark is)
+
+pub with_ok : {A E : Type 0} (o : Result A E) (Q : Type 0) → Q → OnOk o Q
+with_ok (Ok v) Q q = q
+with_ok (Err e) Q q = tt

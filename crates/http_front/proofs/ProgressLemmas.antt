@@ -23,7 +23,7 @@ use Rattle.http_front.specs.Content.{sized_content, content_of, is_continue_due,
 use Rattle.http_front.specs.NextUnit.{content_found, checked_unit, block_unit, front_unit, next_unit}
 use Rattle.unit_types.specs.declared.message.Addr.{Addr}
 use Rattle.http_front.specs.Reading.{limit_or, kept_limit}
-use Rattle.http_front.specs.Kept.{Kept, begun_at, unit_of, Unchanged}
+use Rattle.http_front.specs.Kept.{Kept, Mark, begun_at, unit_of, Unchanged}
 use Rattle.http_front.specs.Progress.{waiting, Waits, start, Tells, TellsBehind, Knows, IsWithin, Moves}
 use Rattle.http_front.proofs.ChunkLemmas.{steps_enough, chunks_step, chunk_fits_as}
 use Rattle.http_front.proofs.ContentStays.{chunk_stays}
@@ -181,21 +181,21 @@ unchanged : (k : Kept) (limit : ℕ) (due : Bool) → unit_of k limit ≡ waitin
 unchanged k limit due is idle kept = rw (is, idle, kept) (refl, refl)
 
 -- the bytes tell nothing new
-pub knows_over : (p q : Progress) (from to : Addr) (bytes : List ℕ) (ended : Bool) (kept : Option ℕ) (is_told : Bool)
+pub knows_over : (p q : Progress) (mark : Mark) (from to : Addr) (bytes : List ℕ) (ended : Bool) (kept : Option ℕ) (is_told : Bool)
     → Knows p bytes kept is_told → Moves p q bytes → ended ≡ false
-    → ((limit : ℕ) → Unchanged (head_kept from to bytes ended kept is_told) limit) × Knows q bytes kept is_told
-knows_over (At.Head s) (At.Head t) from to bytes ended kept is_told knows moves going =
+    → ((limit : ℕ) → Unchanged (head_kept mark from to bytes ended kept is_told) limit) × Knows q bytes kept is_told
+knows_over (At.Head s) (At.Head t) mark from to bytes ended kept is_told knows moves going =
     let waits = search_waits t bytes moves.0 moves.1 moves.2 in
-    let k = head_kept from to bytes ended kept is_told in (
+    let k = head_kept mark from to bytes ended kept is_told in (
       λ limit. unchanged k limit false (ap (λ e. next_unit bytes e (limit_or kept limit)) going ∙ waits.1 (limit_or kept limit)) refl
           (ap (λ t. kept_limit t kept limit) waits.0),
       moves.0,
     )
-knows_over (At.Head s) (At.Content at framing) from to bytes ended kept is_told knows moves going = absurd moves
-knows_over (At.Content at framing) (At.Head t) from to bytes ended kept is_told knows moves going = absurd moves
-knows_over (At.Content at framing) (At.Content then_at then_framing) from to bytes ended kept is_told knows moves going =
+knows_over (At.Head s) (At.Content at framing) mark from to bytes ended kept is_told knows moves going = absurd moves
+knows_over (At.Content at framing) (At.Head t) mark from to bytes ended kept is_told knows moves going = absurd moves
+knows_over (At.Content at framing) (At.Content then_at then_framing) mark from to bytes ended kept is_told knows moves going =
     let waits = knows.waits in
-    let k = head_kept from to bytes ended kept is_told in
+    let k = head_kept mark from to bytes ended kept is_told in
     let whole : bytes ++ [] ≡ bytes = append-nil bytes in
     let unit : next_unit bytes false knows.limit ≡ waiting knows.due =
     subst (λ (ys : List ℕ). content_by framing (drop at ys) ≡ Content.Open → next_unit ys false knows.limit ≡ waiting knows.due) whole (waits.waits []) moves.is_open in (

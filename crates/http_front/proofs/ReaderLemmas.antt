@@ -15,8 +15,9 @@ use Rattle.http_front.specs.Content.{content_of}
 use Rattle.http_front.specs.NextUnit.{Found, request, bad, cut, finished, wait, open_found, content_found, unready_found, end_found, checked_unit, block_unit, front_unit, next_unit}
 use Rattle.unit_types.specs.declared.message.Addr.{Addr}
 use Rattle.http_front.specs.declared.next_unit.Told.{Told}
+use Rattle.http_front.specs.declared.next_unit.Next.TheVariants as Answer
 use Rattle.http_front.specs.Reading.{answer_at, is_request, used_by, kept_limit}
-use Rattle.http_front.specs.Kept.{Kept, begun_at, unit_of, asks_of, kept_behind, limited, kept_next, told_in}
+use Rattle.http_front.specs.Kept.{Kept, Mark, begun_at, unit_of, asks_of, kept_behind, limited, kept_next, told_in}
 use Rattle.http_front.proofs.KeptLemmas.{head_kept}
 use Rattle.http_front.proofs.BlockLemmas.{blank_within}
 use Rattle.http_front.proofs.FrontStays.{front_some, front_fits}
@@ -124,20 +125,20 @@ step_continue k limit told is asks =
 not_asks : (k : Kept) (limit : ℕ) (told : Told) → told ≡ told_in k limit → (told.is_due && not k.is_told) ≡ false → asks_of k limit ≡ false
 not_asks k limit told is asks = ap (λ (t : Told). t.is_due && not k.is_told) (sym is) ∙ asks
 
-pub step_request : (from to : Addr) (items : List ℕ) (used : ℕ) (ended : Bool) (kept : Option ℕ) (is_told : Bool) (limit : ℕ) (told : Told)
-    → told ≡ told_in (head_kept from to (drop used items) ended kept is_told) limit → (told.is_due && not is_told) ≡ false → is_request told.answer ≡ true
-    → head_kept from to (drop (used + told.used) items) ended None false ≡ kept_next (head_kept from to (drop used items) ended kept is_told) limit
-step_request from to items used ended kept is_told limit told is asks serves =
-    let k = head_kept from to (drop used items) ended kept is_told in
+pub step_request : (mark : Mark) (from to : Addr) (items : List ℕ) (used : ℕ) (ended : Bool) (kept : Option ℕ) (is_told : Bool) (limit : ℕ) (told : Told)
+    → told ≡ told_in (head_kept mark from to (drop used items) ended kept is_told) limit → (told.is_due && not is_told) ≡ false → is_request told.answer ≡ true
+    → head_kept mark from to (drop (used + told.used) items) ended None false ≡ kept_next (head_kept mark from to (drop used items) ended kept is_told) limit
+step_request mark from to items used ended kept is_told limit told is asks serves =
+    let k = head_kept mark from to (drop used items) ended kept is_told in
     let idle : asks_of k limit ≡ false = not_asks k limit told is asks in
     let uses : told.used ≡ used_by (unit_of k limit).found = ap (λ (t : Told). t.used) is in
     let served : is_request (answer_at from to (unit_of k limit).found) ≡ true = ap (λ (t : Told). is_request t.answer) (sym is) ∙ serves in
     rw (idle, uses) (by_found (unit_of k limit).found served)
   where
     by_found : (g : Found) → is_request (answer_at from to g) ≡ true
-        → head_kept from to (drop (used + used_by g) items) ended None false
-        ≡ kept_behind (limited (head_kept from to (drop used items) ended kept is_told) limit) g
-    by_found (request m n) asks = ap (λ bytes. head_kept from to bytes ended None false) (sym (drop-drop n used items))
+        → head_kept mark from to (drop (used + used_by g) items) ended None false
+        ≡ kept_behind (limited (head_kept mark from to (drop used items) ended kept is_told) limit) g
+    by_found (request m n) asks = ap (λ bytes. head_kept mark from to bytes ended None false) (sym (drop-drop n used items))
     by_found (bad status) asks = cc
     by_found cut asks = cc
     by_found finished asks = cc
@@ -157,3 +158,15 @@ step_other k limit told is asks serves =
     by_found q cut other = refl
     by_found q finished other = refl
     by_found q wait other = refl
+
+-- bytes are refused with a status of three digits
+answer_bad : (from to : Addr) (f : Found) (status : ℕ) → answer_at from to f ≡ Answer.Bad status → f ≡ bad status
+answer_bad from to (request m used) status is = absurd (cc is)
+answer_bad from to (bad other) status is = cc is
+answer_bad from to cut status is = absurd (cc is)
+answer_bad from to finished status is = absurd (cc is)
+answer_bad from to wait status is = absurd (cc is)
+
+pub small_answer : (from to : Addr) (bytes : List ℕ) (ended : Bool) (limit status : ℕ) → answer_at from to (next_unit bytes ended limit).found ≡ Answer.Bad status → status < 1000
+small_answer from to bytes ended limit status is =
+    let low = error_status bytes ended limit status (answer_bad from to (next_unit bytes ended limit).found status is) in omega (arith, low.1)

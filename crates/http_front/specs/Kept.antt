@@ -17,8 +17,17 @@ pub data Stage : Type 0 where
   head : Stage
   content : Request → Framing → Stage
 
+-- where a reader stood: the bytes that it kept, whether the input had ended behind them, and of the request at their front
+-- the limit of its content and whether its `100 Continue` was told
+pub record Mark : Type 0 where
+  pub bytes : List ℕ
+  pub ended : Bool
+  pub limit : Option ℕ
+  pub is_told : Bool
+
 -- the addresses of the connection, the bytes that are kept, what is kept of those before them, and whether the input ended
--- behind them; of the request at the front, the limit of its content and whether its `100 Continue` was told
+-- behind them; of the request at the front, the limit of its content and whether its `100 Continue` was told; and where it
+-- stood when it was marked
 pub record Kept : Type 0 where
   pub from : Addr
   pub to : Addr
@@ -27,6 +36,7 @@ pub record Kept : Type 0 where
   pub ended : Bool
   pub limit : Option ℕ
   pub is_told : Bool
+  pub mark : Mark
 
 -- what is found in what is kept, and whether the head is complete
 abbrev pub unit_at : Stage → ℕ → List ℕ → Bool → NextUnit
@@ -60,6 +70,21 @@ fed r piece = record r { unread = r.unread ++ piece }
 abbrev pub at_end : Reading → Reading
 at_end r = record r { ended = true }
 
+-- ---- going back
+
+-- what it keeps where it was marked
+abbrev pub marked : Kept → Kept
+marked k = record {
+  from = k.from;
+  to = k.to;
+  bytes = k.mark.bytes;
+  stage = head;
+  ended = k.mark.ended;
+  limit = k.mark.limit;
+  is_told = k.mark.is_told;
+  mark = k.mark;
+}
+
 -- ---- a reader's step by what it keeps
 
 abbrev pub unit_of : Kept → ℕ → NextUnit
@@ -81,6 +106,7 @@ kept_behind k (request m used) = record {
   ended = k.ended;
   limit = None;
   is_told = false;
+  mark = k.mark;
 }
 kept_behind k _ = k
 

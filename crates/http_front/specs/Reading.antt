@@ -1,5 +1,5 @@
 -- What a reader keeps, and what its next answer is.
-use Rattle.std.specs.Prelude.{ℕ, ◌+◌, Bool, true, false, not, ◌&&◌, List, drop, Option, Some, None, if◌then◌else◌}
+use Rattle.std.specs.Prelude.{ℕ, ◌≡◌, ◌+◌, ◌<◌, Bool, true, false, not, ◌&&◌, List, drop, Option, Some, None, if◌then◌else◌}
 use Rattle.std.specs.Option.{is_some}
 use Rattle.unit_types.specs.declared.message.Addr.{Addr}
 use Rattle.unit_types.specs.declared.message.Request.{Request}
@@ -68,6 +68,10 @@ is_final _ = false
 abbrev pub used_by : Found → ℕ
 used_by (request m used) = used
 used_by _ = 0
+
+-- bytes are refused with a status of three digits
+abbrev pub HasSmallStatus : Next → Type 0
+HasSmallStatus next = (status : ℕ) → next ≡ Answer.Bad status → status < 1000
 
 -- both as the reader's own step tells them, and whether the head is complete
 abbrev pub told_of : Addr → Addr → Bool → NextUnit → Told

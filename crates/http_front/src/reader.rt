@@ -1,7 +1,7 @@
 //! The requests of a connection, read from its bytes in any pieces.
 ghost use Rattle.std.specs.Prelude.{◌≡◌, ◌&&◌, not, [], true, false, ℕ, IfOk, OnOk, OnErr, IsTrue};
-ghost use Rattle.http_front.specs.Kept.{HasRead, fed, at_end, kept_answer, kept_next, Unchanged};
-ghost use Rattle.http_front.specs.Reading.{Reading, reading_of, has_begun, limit_or, kept_limit, is_request, next_answer, next_reading};
+ghost use Rattle.http_front.specs.Kept.{HasRead, fed, at_end, kept_answer, kept_next, marked, Unchanged};
+ghost use Rattle.http_front.specs.Reading.{Reading, reading_of, has_begun, limit_or, kept_limit, is_request, next_answer, next_reading, HasSmallStatus};
 
 use crate::next_unit::{Next, read_front};
 use crate::progress::{Progress, progress_over};
@@ -9,6 +9,27 @@ use crate::slices::behind;
 use std::alloc::{AllocError, Global};
 use std::marker::Model;
 use unit_types::{Addr, Bytes};
+
+/// Where a reader stood.
+#[derive(Debug, Clone, Copy, Drop)]
+struct Place {
+    // how many bytes it kept, those of requests that it had used with them
+    len: usize,
+    used: usize,
+    ended: bool,
+    limit: Option<u64>,
+    is_told: bool,
+}
+
+impl Place {
+    const START: Place = Place {
+        len: 0,
+        used: 0,
+        ended: false,
+        limit: None,
+        is_told: false,
+    };
+}
 
 /// Reads the requests of a connection from its bytes, in whatever pieces they come.
 ///
@@ -27,10 +48,12 @@ pub struct Reader {
     limit: Option<u64>,
     is_told: bool,
     progress: Progress,
+    // where it goes back to
+    mark: Place,
 }
 
 impl Model for Reader {
-    ghost use Rattle.std.specs.Prelude.{◌≤◌, length, drop};
+    ghost use Rattle.std.specs.Prelude.{◌≤◌, length, drop, take};
     ghost use Rattle.http_front.specs.Kept.{Kept, head};
     ghost use Rattle.http_front.specs.Progress.{Knows};
 
@@ -44,9 +67,15 @@ impl Model for Reader {
       ended = r.ended;
       limit = r.limit;
       is_told = r.is_told;
+      mark = record {
+        bytes = drop r.mark.used (take r.mark.len r.bytes.items);
+        ended = r.mark.ended;
+        limit = r.mark.limit;
+        is_told = r.mark.is_told;
+      };
     } };
 
-    ghost invariant = { λ r. (r.used ≤ length r.bytes.items) × Knows r.progress (drop r.used r.bytes.items) r.limit r.is_told };
+    ghost invariant = { λ r. (r.used ≤ length r.bytes.items) × Knows r.progress (drop r.used r.bytes.items) r.limit r.is_told × (r.mark.used ≤ r.mark.len) × (r.mark.len ≤ length r.bytes.items) };
 }
 
 impl Reader {
@@ -74,21 +103,35 @@ impl Reader {
             limit: None,
             is_told: false,
             progress: Progress::START,
+            mark: Place::START,
         }
     }
 
-    /// Takes the next bytes of the input.
+    /// Takes the next bytes of the input, and is marked before them.
     ///
     /// Fails for want of memory alone; the reader has then read what it had before.
     pub fn feed(&mut self, alloc: Global, piece: &[u8]) -> Result<(), AllocError>
-        requires { self.old.ended ≡ false }
         ensures ok { OnOk result
             ((r : Reading) → HasRead r self.old → HasRead (fed r piece.now) self.new) }
         ensures err { OnErr result ((r : Reading) → HasRead r self.old → HasRead r self.new) }
+        ensures marked { OnOk result
+            ((r : Reading) → HasRead r self.old → HasRead r (marked self.new)) }
         ensures ended { self.new.ended ≡ self.old.ended }
     {
         self.drop_blank();
         self.forget_used(alloc)?;
+        self.mark();
+        self.append(piece)
+    }
+
+    // puts the piece behind the bytes
+    fn append(&mut self, piece: &[u8]) -> Result<(), AllocError>
+        ensures ok { OnOk result
+            ((r : Reading) → HasRead r self.old → HasRead (fed r piece.now) self.new) }
+        ensures err { OnErr result ((r : Reading) → HasRead r self.old → HasRead r self.new) }
+        ensures marked { marked self.new ≡ marked self.old }
+        ensures ended { self.new.ended ≡ self.old.ended }
+    {
         self.bytes.extend_from_slice(piece)
     }
 
@@ -103,21 +146,59 @@ impl Reader {
         }
     }
 
-    // lets the used bytes go once they are more than the others, so that each byte is moved at most once more
+    // lets the used bytes go once they are more than the others, so that each byte is moved at most once more; where it was
+    // marked is forgotten
     fn forget_used(&mut self, alloc: Global) -> Result<(), AllocError>
-        ensures { self.new ≡ self.old }
+        ensures { self.new ≡ record self.old { mark = self.new.mark } }
     {
         if self.bytes.len() - self.used < self.used {
             self.bytes = Vec::from_slice(alloc, &self.bytes[self.used..])?;
             self.used = 0;
+            self.mark = Place::START;
         }
         Ok(())
+    }
+
+    /// Marks where it stands, so that `go_back` brings it there again. It takes no memory.
+    pub fn mark(&mut self)
+        ensures read { (r : Reading) → HasRead r self.old → HasRead r self.new }
+        ensures marked { (r : Reading) → HasRead r self.old → HasRead r (marked self.new) }
+        ensures ended { self.new.ended ≡ self.old.ended }
+    {
+        self.mark = Place {
+            len: self.bytes.len(),
+            used: self.used,
+            ended: self.ended,
+            limit: self.limit,
+            is_told: self.is_told,
+        };
+    }
+
+    /// Goes back to where it was marked: it has read then what it had read there. It takes no memory.
+    pub fn go_back(&mut self)
+        ensures { (r : Reading) → HasRead r (marked self.old) → HasRead r self.new }
+    {
+        self.bytes.truncate(self.mark.len);
+        self.used = self.mark.used;
+        self.ended = self.mark.ended;
+        self.limit = self.mark.limit;
+        self.is_told = self.mark.is_told;
+        self.progress = Progress::START;
     }
 
     /// Says that the input ended behind the bytes so far.
     pub fn end(&mut self)
         ensures { (r : Reading) → HasRead r self.old → HasRead (at_end r) self.new }
     {
+        self.ended = true;
+    }
+
+    /// The same, and is marked before it.
+    pub fn end_marked(&mut self)
+        ensures read { (r : Reading) → HasRead r self.old → HasRead (at_end r) self.new }
+        ensures marked { (r : Reading) → HasRead r self.old → HasRead r (marked self.new) }
+    {
+        self.mark();
         self.ended = true;
     }
 
@@ -147,6 +228,8 @@ impl Reader {
             ((r : Reading) → HasRead r self.old → HasRead (next_reading r max_body) self.new) }
         ensures err { OnErr result ((r : Reading) → HasRead r self.old → HasRead r self.new) }
         ensures ended { self.new.ended ≡ self.old.ended }
+        ensures marked { marked self.new ≡ marked self.old }
+        ensures small { IfOk result HasSmallStatus }
     {
         self.take_next(alloc, max_body)
     }
@@ -157,6 +240,7 @@ impl Reader {
         ensures answer { IfOk result (λ answer. answer ≡ kept_answer self.old max_body) }
         ensures ok { OnOk result (self.new ≡ kept_next self.old max_body) }
         ensures err { OnErr result (self.new ≡ self.old) }
+        ensures small { IfOk result HasSmallStatus }
     {
         if self.still_waits() {
             Ok(Next::NeedMore)
@@ -189,6 +273,7 @@ impl Reader {
         ensures answer { IfOk result (λ answer. answer ≡ kept_answer self.old max_body) }
         ensures ok { OnOk result (self.new ≡ kept_next self.old max_body) }
         ensures err { OnErr result (self.new ≡ self.old) }
+        ensures small { IfOk result HasSmallStatus }
     {
         let limit = limit_or(self.limit, max_body);
         let unread = behind(&self.bytes, self.used);

@@ -343,3 +343,34 @@ fn lets_empty_lines_go(rt: HostRuntime) {
     assert!(rt; reader.kept_len() <= 20);
     assert!(rt; !reader.has_begun());
 }
+
+#[test]
+fn goes_back(rt: HostRuntime) {
+    let mut reader = Reader::open(rt.alloc(), CLIENT, SERVER).expect(&rt, "opened");
+    reader
+        .feed(rt.alloc(), b"GET / HTTP/1.1\r\n")
+        .expect(&rt, "fed");
+    assert!(rt; is_next(&rt, &mut reader, false).expect(&rt, "read"));
+    reader
+        .feed(rt.alloc(), b"Host: a\r\n\r\n")
+        .expect(&rt, "fed");
+    assert!(rt; is_next(&rt, &mut reader, true).expect(&rt, "read"));
+    reader.go_back();
+    assert!(rt; is_next(&rt, &mut reader, false).expect(&rt, "read"));
+    reader.mark();
+    reader.end_marked();
+    reader.go_back();
+    reader
+        .feed(rt.alloc(), b"Host: a\r\n\r\n")
+        .expect(&rt, "fed");
+    assert!(rt; is_next(&rt, &mut reader, true).expect(&rt, "read"));
+}
+
+// whether a whole request comes next, or more bytes are needed
+fn is_next(rt: &HostRuntime, reader: &mut Reader, whole: bool) -> Result<bool, AllocError> {
+    Ok(match reader.next(rt.alloc(), 0)? {
+        Next::Request(_) => whole,
+        Next::NeedMore => !whole,
+        _ => false,
+    })
+}

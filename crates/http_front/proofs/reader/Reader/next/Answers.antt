@@ -1,7 +1,7 @@
 use Rattle.std.proofs.Common.{◌≡◌, ◌∙◌, sym, subst}
 use Rattle.http_front.specs.Kept.{Kept, HasRead, kept_answer, kept_next}
 use Rattle.http_front.specs.Reading.{Reading, next_answer, next_reading}
-use Rattle.http_front.proofs.KeptLemmas.{has_read_answer, has_read_next, on_ok, on_err, if_ok, step_ended}
+use Rattle.http_front.proofs.KeptLemmas.{has_read_answer, has_read_next, on_ok, on_err, if_ok, step_ended, step_marked}
 use Rattle.http_front.proofs.reader.Reader.next.Goals as goal
 
 pub returns-clause-answer : goal.returns-clause-answer
@@ -26,3 +26,6 @@ returns-clause-err c =
 
 pub returns-clause-ended : goal.returns-clause-ended
 returns-clause-ended c = step_ended c.take_next.result c.args.self.now c.take_next.new.self c.args.max_body c.take_next.ensures.ok c.take_next.ensures.err
+
+pub returns-clause-marked : goal.returns-clause-marked
+returns-clause-marked c = step_marked c.take_next.result c.args.self.now c.take_next.new.self c.args.max_body c.take_next.ensures.ok c.take_next.ensures.err
