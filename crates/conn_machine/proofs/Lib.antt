@@ -1,14 +1,15 @@
 mod CallLemmas
 mod CourseLemmas
 mod EndLemmas
+mod EndedLemmas
 mod Examples
 mod FrontLaws
 mod NamedTurns
 mod NeedLemmas
 mod PlainLemmas
-mod EndedLemmas
-mod ShowsLemmas
+mod RecordLemmas
 mod SameLemmas
+mod ShowsLemmas
 mod StepLemmas
 mod TurnLemmas
 mod UnchangedLemmas

@@ -9,6 +9,7 @@ mod met;
 mod pending;
 mod queries;
 mod receipt;
+pub mod records;
 #[cfg(test)]
 mod tests;
 

@@ -81,7 +81,7 @@ raw_path path rest query slash =
     ap (λ t. before_first is_question (before_first is_hash t)) whole ∙ path_before_query (path_in_target path) query (all_in_path path)
 
 -- decoding undoes the escapes
-kept_byte : (b : ℕ) → is_escaped_in_path b ≡ false → (b ≡ 37 → ⊥)
+pub kept_byte : (b : ℕ) → is_escaped_in_path b ≡ false → (b ≡ 37 → ⊥)
 kept_byte b kept percent = grind (arith, nat_tests)
 
 pub decoded : (path : List ℕ) → All IsByte path → percent_decode (path_in_target path) ≡ path

@@ -63,7 +63,7 @@ version_text zero low = (lacks_computed is_line_feed (print_version 0) refl, lac
 version_text (suc zero) low = (lacks_computed is_line_feed (print_version 1) refl, lacks_computed is_return (print_version 1) refl)
 version_text (suc (suc n)) low = absurd (omega arith)
 
-abbrev request_text : RequestHead → List ℕ
+abbrev pub request_text : RequestHead → List ℕ
 request_text h = h.method ++ 32 ∷ (h.target ++ 32 ∷ print_version h.minor)
 
 token_text : (w : List ℕ) → IsToken w → IsText w
@@ -130,7 +130,7 @@ section_back (f ∷ fs) last all =
 
 -- ---- a head is read back
 
-head_shape : (h : RequestHead) → h.blank ≡ [] → print_request h ++ [] ≡ request_text h ++ (print_end h.line_end ++ print_section h.fields h.last)
+pub head_shape : (h : RequestHead) → h.blank ≡ [] → print_request h ++ [] ≡ request_text h ++ (print_end h.line_end ++ print_section h.fields h.last)
 head_shape h none = rw (print_request-append h [], none) (simp (append_assoc, append-nil))
 
 same_head : (g h : RequestHead) → g.blank ≡ h.blank → g.method ≡ h.method → g.target ≡ h.target → g.minor ≡ h.minor → g.line_end ≡ h.line_end → g.fields ≡ h.fields → g.last ≡ h.last → g ≡ h

@@ -1,6 +1,7 @@
 pub mod AnswerLemmas
 mod BlankLemmas
 mod BlockLemmas
+mod BoundLemmas
 mod ChunkLemmas
 mod ChunkLineLemmas
 mod ClosingLemmas
@@ -14,6 +15,7 @@ mod FrontLemmas
 mod FrontStays
 mod HeadLemmas
 pub mod KeptLemmas
+pub mod LengthLemmas
 mod Numbers
 mod ProgressLemmas
 mod ReaderLemmas

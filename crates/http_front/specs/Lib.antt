@@ -4,6 +4,7 @@ pub mod Fields
 pub mod Framing
 pub mod Target
 pub mod Message
+pub mod Bounds
 pub mod Checks
 pub mod ChunkLine
 pub mod Chunks

@@ -3,6 +3,7 @@ ghost use Rattle.std.specs.Prelude.{◌≡◌, ◌≢◌, ◌<◌, ◌≤◌, �
 ghost use Rattle.httparse.specs.Grammar.{ChunkLine, ReadsChunkLine, chunk_size};
 ghost use Rattle.http_front.specs.ChunkLine.{chunk_size_of};
 ghost use Rattle.http_front.specs.declared.next_unit.Next.TheVariants as Answer;
+ghost use Rattle.http_front.specs.Bounds.{IsBounded};
 ghost use Rattle.http_front.specs.Front.{HeadBegun, head_begun};
 ghost use Rattle.http_front.specs.Kept.{fed, at_end};
 ghost use Rattle.http_front.specs.Message.{Message};
@@ -13,7 +14,8 @@ ghost use Rattle.http_front.specs.Session.{Connection, plain_session_of};
 /// What is found at the front of the bytes stays however the input goes on, unless more bytes were needed to tell; behind
 /// a complete head so does whether `100 Continue` is due, which it isn't before. After the end of the input no more bytes
 /// are needed. Where it ended between requests nothing is due, and behind a complete head it never ends so. A request lies
-/// in the bytes that were given, and has a byte at least. The bytes are refused with the status of an error.
+/// in the bytes that were given, has a byte at least, and is bounded by the limits of a head and of a content. The bytes are
+/// refused with the status of an error.
 pub fn laws_of_units()
     ensures stays { (bytes more : List ℕ) (ended : Bool) (limit : ℕ)
         → ((next_unit bytes false limit).found ≢ wait)
@@ -32,6 +34,8 @@ pub fn laws_of_units()
     ensures fits { (bytes : List ℕ) (ended : Bool) (limit : ℕ) (m : Message) (used : ℕ)
         → (next_unit bytes ended limit).found ≡ request m used
         → (0 < used) × (used ≤ length bytes) }
+    ensures bounded { (bytes : List ℕ) (ended : Bool) (limit : ℕ) (m : Message) (used : ℕ)
+        → (next_unit bytes ended limit).found ≡ request m used → IsBounded limit m }
     ensures status { (bytes : List ℕ) (ended : Bool) (limit status : ℕ)
         → (next_unit bytes ended limit).found ≡ bad status
         → (400 ≤ status) × (status < 600) }

@@ -27,7 +27,7 @@ pub use asking::{ask_bytes, ask_pieces};
 pub use collector::Collector;
 pub use laws::{
     parts_join, pieces_join, reply_record_length, reply_records_differ, request_record_length,
-    request_records_differ,
+    request_records_differ, short_requests_can_be_written,
 };
 pub use piece::{Parcel, Piece};
 pub use pieces::Pieces;

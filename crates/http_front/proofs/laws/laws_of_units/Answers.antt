@@ -1,3 +1,4 @@
+use Rattle.http_front.proofs.BoundLemmas.{request_bounded}
 use Rattle.http_front.proofs.ReaderLemmas.{request_within, error_status}
 use Rattle.http_front.proofs.StayLemmas.{found_stays, ended_tells}
 use Rattle.http_front.proofs.UnitLemmas.{due_stays, complete_stays, due_begun, finished_idle, begun_unfinished}
@@ -26,6 +27,9 @@ returns-clause-unfinished c bytes ended limit begun is = begun_unfinished bytes 
 
 pub returns-clause-fits : goal.returns-clause-fits
 returns-clause-fits c bytes ended limit m used is = request_within bytes ended limit m used is
+
+pub returns-clause-bounded : goal.returns-clause-bounded
+returns-clause-bounded c bytes ended limit m used is = request_bounded bytes ended limit m used is
 
 pub returns-clause-status : goal.returns-clause-status
 returns-clause-status c bytes ended limit status is = error_status bytes ended limit status is
