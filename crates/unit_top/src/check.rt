@@ -1,10 +1,11 @@
 //! The check of a trace, read in pieces.
-ghost use Rattle.std.specs.Prelude.{◌≡◌, ◌≢◌, ◌⊎◌, ◌≤◌, ℕ, List, [], length, Some, IfOk, IfErr, OnOk, string_bytes};
+ghost use Rattle.std.specs.Prelude.{◌≡◌, ◌≢◌, ◌⊎◌, ◌≤◌, ℕ, List, [], ◌∷◌, length, codes, Some, IfOk, IfErr, OnOk, string_bytes};
 ghost use Rattle.trace_check.specs.declared.verdict.Verdict.TheVariants.{Broken};
 ghost use Rattle.unit_io.specs.Causes.{Rose};
 ghost use Rattle.unit_io.specs.Status.{input_limit, place_in, status_in, IsReadStop};
 ghost use Rattle.unit_io.specs.Told.{Adds, AddsFront};
 ghost use Rattle.unit_io.specs.declared.stop.Stop.TheVariants.{Memory, Write};
+ghost use Rattle.unit_model.specs.Lines.{line};
 ghost use Rattle.unit_top.specs.Check.{IsCheckRead, check_outcome, judged_status, verdict_outcome, verdict_status, verdict_text};
 ghost use Rattle.unit_top.specs.Ends.{EndsAs, HasCauses, IsSilent};
 ghost use Rattle.unit_top.specs.Outcome.{Refused};
@@ -66,6 +67,36 @@ fn judge<S: Source>(alloc: Global, src: &mut S) -> Result<Verdict, Stop>
     }
 }
 
+// The first line of a legal trace.
+fn steps_line(alloc: Global, steps: u64) -> Result<String, AllocError>
+    ensures { IfOk result (λ text. string_bytes text ≡ line (codes "legal") (steps ∷ [])) }
+{
+    format!(in alloc; "legal {steps}\n")
+}
+
+// The second line of a legal trace.
+fn chunks_line(alloc: Global, free: u64, chunks: u64) -> Result<String, AllocError>
+    ensures { IfOk result (λ text. string_bytes text ≡ line (codes "chunks") (free ∷ chunks ∷ [])) }
+{
+    format!(in alloc; "chunks {free} {chunks}\n")
+}
+
+// The last line of a legal trace.
+fn streams_line(
+    alloc: Global,
+    drawn: u64,
+    accepted: u64,
+    cancelled: u64,
+    abandoned: u64,
+    refused: u64,
+    left_open: u64,
+) -> Result<String, AllocError>
+    ensures { IfOk result (λ text. string_bytes text
+        ≡ line (codes "streams") (drawn ∷ accepted ∷ cancelled ∷ abandoned ∷ refused ∷ left_open ∷ [])) }
+{
+    format!(in alloc; "streams {drawn} {accepted} {cancelled} {abandoned} {refused} {left_open}\n")
+}
+
 // The lines that tell the verdict; none of a broken trace.
 fn text_of(alloc: Global, verdict: Verdict) -> Result<String, AllocError>
     ensures { IfOk result (λ text. string_bytes text ≡ verdict_text verdict) }
@@ -89,9 +120,12 @@ fn text_of(alloc: Global, verdict: Verdict) -> Result<String, AllocError>
             refused,
             left_open,
         } => {
-            format!(in alloc;
-                "legal {steps}\nchunks {free} {chunks}\nstreams {drawn} {accepted} {cancelled} {abandoned} {refused} {left_open}\n"
-            )
+            let mut text = steps_line(alloc, steps)?;
+            text.push_str(&chunks_line(alloc, free, chunks)?)?;
+            text.push_str(&streams_line(
+                alloc, drawn, accepted, cancelled, abandoned, refused, left_open,
+            )?)?;
+            Ok(text)
         }
     }
 }
