@@ -24,10 +24,11 @@ fn room(alloc: Global) -> Result<Vec<u8>, AllocError>
     vec![in alloc; 0u8; PIECE]
 }
 
-/// The verdict of the trace on the source. It is read in pieces, and no further once a line decided.
+/// The verdict of the trace on the source. It is read in pieces, no further once a line decided.
 ///
-/// Ends with `Stop::Read` where the source failed before a line decided, with `Stop::Input(INPUT_LIMIT)` where the first
-/// that many bytes of a longer trace decide nothing, and else with `Stop::Memory`.
+/// Ends with `Stop::Read` where the source failed before a line decided, with
+/// `Stop::Input(INPUT_LIMIT)` where the first that many bytes of a longer trace decide nothing, and
+/// else with `Stop::Memory`.
 fn judge<S: Source>(alloc: Global, src: &mut S) -> Result<Verdict, Stop>
     ensures verdict { IfOk result (λ verdict. (trace : List ℕ) → S.left src.old ≡ Some trace
         → check_outcome trace ≡ verdict_outcome verdict) }
@@ -91,8 +92,8 @@ fn streams_line(
     refused: u64,
     left_open: u64,
 ) -> Result<String, AllocError>
-    ensures { IfOk result (λ text. string_bytes text
-        ≡ line (codes "streams") (drawn ∷ accepted ∷ cancelled ∷ abandoned ∷ refused ∷ left_open ∷ [])) }
+    ensures { IfOk result (λ text. string_bytes text ≡ line (codes "streams")
+        (drawn ∷ accepted ∷ cancelled ∷ abandoned ∷ refused ∷ left_open ∷ [])) }
 {
     format!(in alloc; "streams {drawn} {accepted} {cancelled} {abandoned} {refused} {left_open}\n")
 }
