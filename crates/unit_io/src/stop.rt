@@ -22,6 +22,8 @@ pub enum Stop {
     /// The input is longer than its limit, which stands here, or broken: the place of the byte where the first broken
     /// part begins.
     Input(u64),
+    /// A trace has a step that isn't enabled. All was written.
+    Illegal,
 }
 
 impl Stop {
@@ -35,6 +37,7 @@ impl Stop {
             Stop::Write => 4,
             Stop::Memory => 5,
             Stop::Input(_) => 6,
+            Stop::Illegal => 8,
         }
     }
 }
@@ -66,6 +69,7 @@ pub fn write_line<E: Sink>(err: &mut E, stop: Stop) -> Result<(), Failed>
         Stop::Write => write_all(err, b"unit: write\n"),
         Stop::Memory => write_all(err, b"unit: memory\n"),
         Stop::Input(place) => write_input_line(err, place),
+        Stop::Illegal => write_all(err, b"unit: illegal\n"),
     }
 }
 

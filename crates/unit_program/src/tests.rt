@@ -1,5 +1,7 @@
 //! Worked rows: what each command writes for its input, and with which status it ends.
 
+mod check;
+
 use crate::handlers::ProgramHandlers;
 use std::alloc::AllocError;
 use unit_io::{MemSink, MemSource};
@@ -11,15 +13,17 @@ const GET: &[u8] = b"GET / HTTP/1.1\r\nHost: a\r\n\r\n";
 const GREETED: &[u8] =
     b"HTTP/1.1 200 OK\r\nContent-Type: text/plain\r\nContent-Length: 14\r\n\r\nHello, world!\n";
 
-// The calls that fail, by their numbers.
+// The most that each read hands out, and the calls that fail, by their numbers.
 #[derive(Clone, Copy, Drop)]
 struct Faults<'a> {
+    pieces: &'a [usize],
     reads: &'a [u64],
     writes: &'a [u64],
     errors: &'a [u64],
 }
 
 const NO_FAULTS: Faults<'static> = Faults {
+    pieces: &[],
     reads: &[],
     writes: &[],
     errors: &[],
@@ -52,7 +56,7 @@ fn run(
     let handlers = ProgramHandlers::open(alloc)?;
     let mut src = MemSource::open(
         Bytes::copy_of(alloc, input)?,
-        Vec::new(alloc),
+        Vec::from_slice(alloc, faults.pieces)?,
         Vec::from_slice(alloc, faults.reads)?,
     );
     let mut out = MemSink::open(alloc, Vec::from_slice(alloc, faults.writes)?);
@@ -186,12 +190,14 @@ fn closes_after_http_1_0(rt: HostRuntime) {
 
 #[test]
 fn faulty_words(rt: HostRuntime) {
-    let forms: [&[&str]; 5] = [
+    let forms: [&[&str]; 7] = [
         &[],
         &["once"],
         &["once", "nobody"],
         &["once", "hello", "hello"],
         &["twice", "hello"],
+        &["check", "hello"],
+        &["Check"],
     ];
     for words in forms {
         let outcome = run(&rt, words, GET, NO_FAULTS).expect(&rt, "memory");
@@ -203,8 +209,7 @@ fn faulty_words(rt: HostRuntime) {
 fn failing_source(rt: HostRuntime) {
     let faults = Faults {
         reads: &[0],
-        writes: &[],
-        errors: &[],
+        ..NO_FAULTS
     };
     let outcome = run(&rt, &["once", "hello"], GET, faults).expect(&rt, "memory");
     assert!(rt; outcome.is(3, b"", b"unit: read\n"));
@@ -213,9 +218,8 @@ fn failing_source(rt: HostRuntime) {
 #[test]
 fn failing_sink(rt: HostRuntime) {
     let faults = Faults {
-        reads: &[],
         writes: &[1],
-        errors: &[],
+        ..NO_FAULTS
     };
     let outcome = run(&rt, &["once", "hello"], GET, faults).expect(&rt, "memory");
     assert!(rt; outcome.is(4, &GREETED[..64], b"unit: write\n"));
@@ -224,9 +228,8 @@ fn failing_sink(rt: HostRuntime) {
 #[test]
 fn failing_err_changes_no_status(rt: HostRuntime) {
     let faults = Faults {
-        reads: &[],
-        writes: &[],
         errors: &[0],
+        ..NO_FAULTS
     };
     let outcome = run(&rt, &["once"], GET, faults).expect(&rt, "memory");
     assert!(rt; outcome.is(2, b"", b""));

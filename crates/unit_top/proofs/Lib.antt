@@ -1,1 +1,4 @@
+mod CheckLemmas
+mod EndLemmas
 mod OnceLemmas
+mod TextLemmas

@@ -1,31 +1,46 @@
--- What a command leaves, by the status with which it ends.
-use Rattle.std.specs.Prelude.{ℕ, ◌≡◌, ◌≢◌, ◌<◌, ◌⊎◌, ◌==◌, List, [], length, if◌then◌else◌, Option}
+-- How a command ends, by its status.
+use Rattle.std.specs.Prelude.{ℕ, ◌≡◌, ◌≢◌, ◌⊎◌, ◌==◌, List, [], if◌then◌else◌, Option, Some}
 use Rattle.unit_types.specs.declared.message.Request.{Request}
 use Rattle.unit_types.specs.declared.message.Reply.{Reply}
-use Rattle.unit_io.specs.declared.stop.Stop.{Stop}
-use Rattle.unit_io.specs.declared.stop.Stop.TheVariants.{Usage, Read, Write, Memory, Input}
+use Rattle.unit_io.specs.declared.stop.Stop.TheVariants.{Usage, Read, Write, Memory, Input, Illegal}
 use Rattle.unit_io.specs.Causes.{Rose}
-use Rattle.unit_io.specs.Status.{input_limit, line_of, IsReadStop}
+use Rattle.unit_io.specs.Status.{input_limit, line_of}
 use Rattle.unit_io.specs.Told.{Adds, AddsFront}
-use Rattle.http_front.specs.Session.{once_of}
-use Rattle.unit_top.specs.Command.{Command, Once}
+use Rattle.unit_top.specs.Check.{check_outcome}
+use Rattle.unit_top.specs.Command.{Command, Once, Check}
+use Rattle.unit_top.specs.Outcome.{Outcome, Refused, Written, once_outcome, output_in}
 
--- the statuses: all done, a faulty command line, a source that failed, a sink that failed, no memory, a faulty input
+-- the statuses: all done, a faulty command line, a source that failed, a sink that failed, no memory, a faulty input, an
+-- illegal trace
 abbrev pub IsStatus : ℕ → Type 0
-IsStatus status = (status ≡ 0) ⊎ ((status ≡ 2) ⊎ ((status ≡ 3) ⊎ ((status ≡ 4) ⊎ ((status ≡ 5) ⊎ (status ≡ 6)))))
+IsStatus status =
+    (status ≡ 0) ⊎ ((status ≡ 2) ⊎ ((status ≡ 3) ⊎ ((status ≡ 4) ⊎ ((status ≡ 5) ⊎ ((status ≡ 6) ⊎ (status ≡ 8))))))
 
 -- the statuses with which nothing is written
 abbrev pub IsSilent : ℕ → Type 0
 IsSilent status = (status ≡ 2) ⊎ ((status ≡ 3) ⊎ (status ≡ 6))
 
--- what a command writes for its input
-abbrev pub output_of : (List ℕ → Request → Reply) → Command → List ℕ → List ℕ
-output_of reply_of (Once handler) input = once_of reply_of handler input
+-- the bytes that a command works on: those that its source tells
+abbrev pub IsInput : Command → Option (List ℕ) → List ℕ → Type 0
+IsInput (Once handler) left input = left ≡ Some input
+IsInput Check left input = left ≡ Some input
 
--- the part of the output that was written: all of it with status 0, a front of it where it broke off
-pub record Leaves (status : ℕ) (before after : Option (List ℕ)) (output : List ℕ) : Type 0 where
-  pub whole : status ≡ 0 → Adds before after output
-  pub front : (status ≡ 4) ⊎ (status ≡ 5) → AddsFront before after output
+-- what a command makes of these bytes
+abbrev pub outcome_of : (List ℕ → Request → Reply) → Command → List ℕ → Outcome
+outcome_of reply_of (Once handler) input = once_outcome reply_of handler input
+outcome_of reply_of Check input = check_outcome input
+
+-- the status of each outcome; in its place a fault of the source, a fault of the sink where there is something to write, or
+-- want of memory may come
+abbrev pub IsEnd : Outcome → ℕ → Type 0
+IsEnd (Refused place) status = (status ≡ 6) ⊎ ((status ≡ 3) ⊎ (status ≡ 5))
+IsEnd (Written output end) status = (status ≡ end) ⊎ ((status ≡ 3) ⊎ ((status ≡ 4) ⊎ (status ≡ 5)))
+
+-- the end of a command, and the part of the output that was written: all of it, or a front of it where it broke off
+pub record EndsAs (outcome : Outcome) (status : ℕ) (before after : Option (List ℕ)) : Type 0 where
+  pub end : IsEnd outcome status
+  pub whole : (status ≡ 0) ⊎ (status ≡ 8) → Adds before after (output_in outcome)
+  pub front : (status ≡ 4) ⊎ (status ≡ 5) → AddsFront before after (output_in outcome)
 
 -- the causes of the statuses that faults bring: each comes only where the count of faults rose
 pub record HasCauses (status src_before src_after out_before out_after : ℕ) : Type 0 where
@@ -34,22 +49,19 @@ pub record HasCauses (status src_before src_after out_before out_after : ℕ) : 
   pub write : status ≡ 4 → Rose out_before out_after
   pub no_write_fault : status ≢ 4 → out_after ≡ out_before
 
--- the input is too long exactly where the status says so, but where the words, a fault or want of memory came first
-pub record IsTooLong (status : ℕ) (input : List ℕ) : Type 0 where
-  pub told : status ≡ 6 → input_limit < length input
-  pub only : input_limit < length input → (status ≢ 0) × (status ≢ 4)
-
--- what goes to standard error with each status; nothing where all was done. A faulty input is one that is too long, and its
--- line tells the limit
-abbrev pub line_of_status : ℕ → List ℕ
-line_of_status status =
+-- what goes to standard error with each status; nothing where all was done. With a faulty input it tells the place
+abbrev pub line_of_status : ℕ → ℕ → List ℕ
+line_of_status status place =
     if status == 2 then line_of Usage
     else if status == 3 then line_of Read
     else if status == 4 then line_of Write
     else if status == 5 then line_of Memory
-    else if status == 6 then line_of (Input input_limit)
+    else if status == 6 then line_of (Input place)
+    else if status == 8 then line_of Illegal
     else []
 
--- what may end a command whose words are a form
-abbrev pub IsCommandStop : Stop → Type 0
-IsCommandStop stop = IsReadStop stop ⊎ (stop ≡ Write)
+-- the place of a faulty input is the one with which it is refused, where the source tells it; of `once` it is the limit,
+-- told or not
+pub record IsPlace (reply_of : List ℕ → Request → Reply) (command : Command) (left : Option (List ℕ)) (place : ℕ) : Type 0 where
+  pub told : (input : List ℕ) → IsInput command left input → outcome_of reply_of command input ≡ Refused place
+  pub once : (handler : List ℕ) → command ≡ Once handler → place ≡ input_limit

@@ -1,2 +1,4 @@
+pub mod Check
 pub mod Command
 pub mod Ends
+pub mod Outcome

@@ -1,8 +1,17 @@
 //! The words of the command line.
 ghost use Rattle.std.specs.Prelude.{◌≡◌, bytes_eq, map, string_bytes, IfSome, IfNone, Some, None};
-ghost use Rattle.unit_top.specs.Command.{is_listed, command_of, Once};
+ghost use Rattle.unit_top.specs.Command.{asked, is_listed, command_of};
 
 use unit_types::Bytes;
+
+/// What the words ask for.
+#[derive(Clone, Copy, Debug, Drop)]
+pub enum Command<'a> {
+    /// One connection on the source, every request of which goes to the handler of this name.
+    Once(&'a [u8]),
+    /// The check of a trace on the source.
+    Check,
+}
 
 fn is_same(name: &[u8], known: &Bytes) -> bool
     ensures { result ≡ bytes_eq name.now known.now }
@@ -17,16 +26,17 @@ fn is_name(names: &[Bytes], name: &[u8]) -> bool
     names.iter().any(|known| is_same(name, known))
 }
 
-/// The handler for which the words `once HANDLER` ask, where they are that form and a handler has that name.
-pub fn once_handler<'a>(names: &[Bytes], words: &'a [String]) -> Option<&'a [u8]>
+/// What the words ask for: `once HANDLER`, where a handler has that name, or `check`. None where they are neither.
+pub fn command_of<'a>(names: &[Bytes], words: &'a [String]) -> Option<Command<'a>>
     ensures some { IfSome result
-        (λ handler. command_of names.now (map string_bytes words.now) ≡ Some (Once handler.now)) }
+        (λ command. command_of names.now (map string_bytes words.now) ≡ Some (asked command)) }
     ensures none { IfNone result (command_of names.now (map string_bytes words.now) ≡ None) }
 {
     match words {
-        [word, handler] if word.as_str() == "once" && is_name(names, handler.as_bytes()) => Some(
-            handler.as_bytes(),
-        ),
+        [word] if word.as_str() == "check" => Some(Command::Check),
+        [word, handler] if word.as_str() == "once" && is_name(names, handler.as_bytes()) => {
+            Some(Command::Once(handler.as_bytes()))
+        }
         _ => None,
     }
 }

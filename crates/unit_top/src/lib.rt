@@ -1,6 +1,7 @@
 //! The commands of the program on one thread: words and an input in, an output and a status out.
 #![tactic(auto)]
 
+mod check;
 mod command;
 mod once;
 mod top;

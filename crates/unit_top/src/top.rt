@@ -1,13 +1,16 @@
 //! The top call: words and an input in, an output and a status out.
-ghost use Rattle.std.specs.Prelude.{◌≡◌, ◌≢◌, ◌⊎◌, ◌↔◌, map, string_bytes, ℕ, List, [], Some, None, Option, IfErr};
+ghost use Rattle.std.specs.Prelude.{◌≡◌, ◌≢◌, ◌⊎◌, ◌↔◌, map, string_bytes, ℕ, List, [], Some, None, Option};
 ghost use Rattle.unit_io.specs.Causes.{Rose};
-ghost use Rattle.unit_io.specs.Status.{status_of, status_in, line_of};
+ghost use Rattle.unit_io.specs.Status.{input_limit, place_in, status_in};
 ghost use Rattle.unit_io.specs.Told.{Adds, AddsFront};
-ghost use Rattle.http_front.specs.Session.{once_of};
-ghost use Rattle.unit_top.specs.Command.{Command, command_of};
-ghost use Rattle.unit_top.specs.Ends.{IsStatus, IsSilent, Leaves, HasCauses, IsTooLong, IsCommandStop, output_of, line_of_status};
+ghost use Rattle.unit_top.specs.Check.{IsCheckRead};
+ghost use Rattle.unit_top.specs.Command as words_asked;
+ghost use Rattle.unit_top.specs.Command.{Check, command_of};
+ghost use Rattle.unit_top.specs.Ends.{EndsAs, HasCauses, IsInput, IsPlace, IsSilent, IsStatus, line_of_status, outcome_of};
+ghost use Rattle.unit_top.specs.Outcome.{once_outcome};
 
-use crate::command::once_handler;
+use crate::check::run_check;
+use crate::command::{Command, command_of};
 use crate::once::once;
 use std::alloc::Global;
 use unit_io::{Sink, Source, Stop, read_all, write_all, write_line};
@@ -21,18 +24,16 @@ fn run_once<S: Source, K: Sink, H: Handlers>(
     out: &mut K,
     handlers: &H,
 ) -> Result<(), Stop>
-    ensures used { status_in result ≢ 2 }
-    ensures stops { IfErr result (λ stop. IsCommandStop stop) }
+    ensures used { (status_in result ≢ 2) × (status_in result ≢ 8) }
     ensures ended { status_in result ≡ 0 → (input : List ℕ) → S.left src.old ≡ Some input
         → S.left src.new ≡ Some [] }
-    ensures output { (input : List ℕ) → S.left src.old ≡ Some input
-        → Leaves (status_in result) (K.written out.old) (K.written out.new)
-        (once_of H.reply_of handler.now input) }
+    ensures outcome { (input : List ℕ) → S.left src.old ≡ Some input
+        → EndsAs (once_outcome H.reply_of handler.now input) (status_in result)
+        (K.written out.old) (K.written out.new) }
+    ensures place { status_in result ≡ 6 → place_in result ≡ input_limit }
     ensures silent { IsSilent (status_in result) → K.written out.new ≡ K.written out.old }
     ensures causes { HasCauses (status_in result) (S.faults src.old) (S.faults src.new)
         (K.faults out.old) (K.faults out.new) }
-    ensures too_long { (input : List ℕ) → S.left src.old ≡ Some input
-        → IsTooLong (status_in result) input }
 {
     let input = match read_all(alloc, src) {
         Ok(input) => input,
@@ -48,31 +49,41 @@ fn run_once<S: Source, K: Sink, H: Handlers>(
 }
 
 // Tells why the command ended, as far as `err` takes it, and gives the status.
-fn tell<E: Sink>(err: &mut E, stop: Stop) -> u8
-    ensures status { result ≡ status_of stop }
+fn end<E: Sink>(err: &mut E, ended: Result<(), Stop>) -> u8
+    ensures status { result ≡ status_in ended }
     ensures line { (Rose (E.faults err.old) (E.faults err.new) → ⊥)
-        → Adds (E.written err.old) (E.written err.new) (line_of stop) }
-    ensures front { AddsFront (E.written err.old) (E.written err.new) (line_of stop) }
+        → Adds (E.written err.old) (E.written err.new)
+        (line_of_status (status_in ended) (place_in ended)) }
+    ensures front { AddsFront (E.written err.old) (E.written err.new)
+        (line_of_status (status_in ended) (place_in ended)) }
 {
-    let _ = write_line(err, stop);
-    stop.status()
+    match ended {
+        Ok(()) => 0,
+        Err(stop) => {
+            let _ = write_line(err, stop);
+            stop.status()
+        }
+    }
 }
 
 /// Runs the command that the words ask for, and gives its exit status.
 ///
-/// The words are those behind the program's name. `once HANDLER` reads `src` to its end as the bytes of one
-/// connection, sends each request to the handler of that name, and writes what the client gets to `out`.
+/// The words are those behind the program's name. `once HANDLER` reads `src` to its end as the bytes of one connection,
+/// sends each request to the handler of that name, and writes what the client gets to `out`. `check` reads `src` as a
+/// trace, until a line is broken or its step not enabled, and writes its verdict.
 ///
 /// | Status | Line on `err` | Comes |
 /// |---|---|---|
-/// | 0 | none | all is done |
+/// | 0 | none | all is done, and the trace of `check` legal |
 /// | 2 | `unit: usage` | exactly where the words are no form, or HANDLER is no name |
-/// | 3 | `unit: read` | only where the faults of `src` rose; nothing was written |
+/// | 3 | `unit: read` | only where the faults of `src` rose, and before a line of a trace decided; nothing was written |
 /// | 4 | `unit: write` | only where the faults of `out` rose; a front of the output was written |
 /// | 5 | `unit: memory` | for want of memory; a front of the output was written |
-/// | 6 | `unit: input N` | exactly where the input has more than N = 268,435,456 bytes; nothing was written |
+/// | 6 | `unit: input N` | exactly where the input has more than N = 268,435,456 bytes, of which in a trace no line decided, or the line of a trace that begins at byte N is broken; nothing was written |
+/// | 8 | `unit: illegal` | exactly where a step of the trace isn't enabled; all was written |
 ///
-/// An `err` that fails changes no status.
+/// 8 yields to 4. Of the input and of what was written the clauses speak where `src` and `out` tell it. An `err` that
+/// fails changes no status.
 pub fn unit_top<S: Source, K: Sink, E: Sink, H: Handlers>(
     alloc: Global,
     words: &[String],
@@ -88,23 +99,28 @@ pub fn unit_top<S: Source, K: Sink, E: Sink, H: Handlers>(
         → (S.left src.new ≡ S.left src.old) × (S.faults src.new ≡ S.faults src.old) }
     ensures ended { result ≡ 0 → (input : List ℕ) → S.left src.old ≡ Some input
         → S.left src.new ≡ Some [] }
-    ensures output { (command : Command) → command_of (H.listed handlers.now)
-        (map string_bytes words.now) ≡ Some command → (input : List ℕ) → S.left src.old ≡ Some input
-        → Leaves result (K.written out.old) (K.written out.new)
-        (output_of H.reply_of command input) }
+    ensures outcome { (command : words_asked.Command) → command_of (H.listed handlers.now)
+        (map string_bytes words.now) ≡ Some command → (input : List ℕ)
+        → IsInput command (S.left src.old) input
+        → EndsAs (outcome_of H.reply_of command input) result (K.written out.old)
+        (K.written out.new) }
+    ensures check { command_of (H.listed handlers.now) (map string_bytes words.now) ≡ Some Check
+        → (trace : List ℕ) → S.left src.old ≡ Some trace
+        → IsCheckRead result trace (S.left src.new) }
     ensures silent { IsSilent result → K.written out.new ≡ K.written out.old }
     ensures causes { HasCauses result (S.faults src.old) (S.faults src.new) (K.faults out.old)
         (K.faults out.new) }
-    ensures too_long { (input : List ℕ) → S.left src.old ≡ Some input → IsTooLong result input }
-    ensures line { (Rose (E.faults err.old) (E.faults err.new) → ⊥)
-        → Adds (E.written err.old) (E.written err.new) (line_of_status result) }
-    ensures line_front { AddsFront (E.written err.old) (E.written err.new) (line_of_status result) }
+    ensures line { (place : ℕ)
+        × ((Rose (E.faults err.old) (E.faults err.new) → ⊥)
+        → Adds (E.written err.old) (E.written err.new) (line_of_status result place))
+        × AddsFront (E.written err.old) (E.written err.new) (line_of_status result place)
+        × (result ≡ 6 → (command : words_asked.Command) → command_of (H.listed handlers.now)
+        (map string_bytes words.now) ≡ Some command
+        → IsPlace H.reply_of command (S.left src.old) place) }
 {
-    let Some(handler) = once_handler(handlers.names(), words) else {
-        return tell(err, Stop::Usage);
-    };
-    match run_once(alloc, handler, src, out, handlers) {
-        Ok(()) => 0,
-        Err(stop) => tell(err, stop),
+    match command_of(handlers.names(), words) {
+        Some(Command::Once(handler)) => end(err, run_once(alloc, handler, src, out, handlers)),
+        Some(Command::Check) => end(err, run_check(alloc, src, out)),
+        None => end(err, Err(Stop::Usage)),
     }
 }

@@ -11,3 +11,6 @@ returns-in-Memory-clause-all g c = rw c.in-Memory.is c.write_all-in-Memory.ensur
 
 pub returns-in-Input-clause-all : goal.returns-in-Input-clause-all
 returns-in-Input-clause-all g c = rw c.in-Input.is c.write_input_line.ensures.all
+
+pub returns-in-Illegal-clause-all : goal.returns-in-Illegal-clause-all
+returns-in-Illegal-clause-all g c = rw c.in-Illegal.is c.write_all-in-Illegal.ensures.all
