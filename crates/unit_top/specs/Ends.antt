@@ -30,8 +30,8 @@ abbrev pub outcome_of : (List ℕ → Request → Reply) → Command → List �
 outcome_of reply_of (Once handler) input = once_outcome reply_of handler input
 outcome_of reply_of Check input = check_outcome input
 
--- the status of each outcome; in its place a fault of the source, a fault of the sink where there is something to write, or
--- want of memory may come
+-- the status of each outcome; in its place a fault of the source, where the outcome is written a fault of the sink, or want of
+-- memory may come
 abbrev pub IsEnd : Outcome → ℕ → Type 0
 IsEnd (Refused place) status = (status ≡ 6) ⊎ ((status ≡ 3) ⊎ (status ≡ 5))
 IsEnd (Written output end) status = (status ≡ end) ⊎ ((status ≡ 3) ⊎ ((status ≡ 4) ⊎ (status ≡ 5)))

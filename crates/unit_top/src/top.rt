@@ -79,10 +79,10 @@ fn end<E: Sink>(err: &mut E, ended: Result<(), Stop>) -> u8
 /// | 3 | `unit: read` | only where the faults of `src` rose, and before a line of a trace decided; nothing was written |
 /// | 4 | `unit: write` | only where the faults of `out` rose; a front of the output was written |
 /// | 5 | `unit: memory` | for want of memory; a front of the output was written |
-/// | 6 | `unit: input N` | exactly where the input has more than N = 268,435,456 bytes, of which in a trace no line decided, or the line of a trace that begins at byte N is broken; nothing was written |
-/// | 8 | `unit: illegal` | exactly where a step of the trace isn't enabled; all was written |
+/// | 6 | `unit: input N` | exactly where the input has more than N = 268,435,456 bytes, the first N of which in a trace decide nothing, or the first line of a trace that decides begins at byte N and is broken; nothing was written |
+/// | 8 | `unit: illegal` | exactly where the first line of the trace that decides is a step that isn't enabled; all was written |
 ///
-/// 8 yields to 4. Of the input and of what was written the clauses speak where `src` and `out` tell it. An `err` that
+/// 6 and 8 yield to 3, 4 and 5. Of the input and of what was written the clauses speak where `src` and `out` tell it. An `err` that
 /// fails changes no status.
 pub fn unit_top<S: Source, K: Sink, E: Sink, H: Handlers>(
     alloc: Global,
