@@ -13,17 +13,15 @@ const GET: &[u8] = b"GET / HTTP/1.1\r\nHost: a\r\n\r\n";
 const GREETED: &[u8] =
     b"HTTP/1.1 200 OK\r\nContent-Type: text/plain\r\nContent-Length: 14\r\n\r\nHello, world!\n";
 
-// The most that each read hands out, and the calls that fail, by their numbers.
+// The calls that fail, by their numbers.
 #[derive(Clone, Copy, Drop)]
 struct Faults<'a> {
-    pieces: &'a [usize],
     reads: &'a [u64],
     writes: &'a [u64],
     errors: &'a [u64],
 }
 
 const NO_FAULTS: Faults<'static> = Faults {
-    pieces: &[],
     reads: &[],
     writes: &[],
     errors: &[],
@@ -56,7 +54,7 @@ fn run(
     let handlers = ProgramHandlers::open(alloc)?;
     let mut src = MemSource::open(
         Bytes::copy_of(alloc, input)?,
-        Vec::from_slice(alloc, faults.pieces)?,
+        Vec::new(alloc),
         Vec::from_slice(alloc, faults.reads)?,
     );
     let mut out = MemSink::open(alloc, Vec::from_slice(alloc, faults.writes)?);

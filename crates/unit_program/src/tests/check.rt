@@ -25,17 +25,6 @@ fn legal_traces(rt: HostRuntime) {
 }
 
 #[test]
-fn a_legal_trace_byte_by_byte(rt: HostRuntime) {
-    let pieces = vec![in rt.alloc(); 1usize; TRACE.len()].expect(&rt, "memory");
-    let faults = Faults {
-        pieces: pieces.as_slice(),
-        ..NO_FAULTS
-    };
-    let outcome = check(&rt, TRACE, faults).expect(&rt, "memory");
-    assert!(rt; outcome.is(0, LEGAL, b""));
-}
-
-#[test]
 fn illegal_traces(rt: HostRuntime) {
     for (trace, told) in [
         (TWICE, b"illegal 2 2 2 1\n".as_slice()),
@@ -58,12 +47,11 @@ fn broken_traces(rt: HostRuntime) {
     }
 }
 
-// The second line decides at the second read; the third read would fail.
+// The first read decides; the second would fail.
 #[test]
 fn reads_no_more_once_a_line_decided(rt: HostRuntime) {
     let faults = Faults {
-        pieces: &[9, 9],
-        reads: &[2],
+        reads: &[1],
         ..NO_FAULTS
     };
     let outcome = check(&rt, TWICE, faults).expect(&rt, "memory");
@@ -73,8 +61,7 @@ fn reads_no_more_once_a_line_decided(rt: HostRuntime) {
 #[test]
 fn a_source_that_fails_before(rt: HostRuntime) {
     let faults = Faults {
-        pieces: &[9, 9],
-        reads: &[1],
+        reads: &[0],
         ..NO_FAULTS
     };
     let outcome = check(&rt, TWICE, faults).expect(&rt, "memory");
