@@ -1,5 +1,6 @@
--- What the words of a fabric show of a core: all but who holds an item, who owns a chunk that isn't free, the streams of items
--- without a tag, and what the seats have done.
+-- What the words of a fabric show of a core. They don't show which seat holds an item that is in neither ring of its queue, which
+-- seat has a chunk that is neither free nor in the run of an armed item, the last stream of an item without a tag, and what the
+-- seats have done.
 use Rattle.std.specs.Prelude.{ℕ, ◌*◌, ◌≡◌, ◌<◌, Bool, true, false, List, map}
 use Rattle.chunk_map.specs.Words.{is_free}
 use Rattle.nncq_ring.specs.Words.{Words, IsWellFormed, line_of, logical_tail}

@@ -1,6 +1,6 @@
 //! Laws of the words of a fabric: each change of a word is a step of the machine, or none. Each function does nothing: its
 //! contract is the law. `specs/Makes.antt` says which word each step changes, and `specs/Needs.antt` what a seat needs for it.
-ghost use Rattle.fabric_words.specs.CoreOf.{ShownIsCoreOf};
+ghost use Rattle.fabric_words.specs.CoreOf.{EachHasHoldings, ShownIsCoreOf};
 ghost use Rattle.fabric_words.specs.Laws.{AbandonLaw, ArmGivesRun, ArmLaw, ClaimLaw, DrawLaw, GetItemLaw, GiveItemLaw, HelpLaw, OpenLaw, OpenedLaw, PopLaw, PushLaw, ReleaseLaw, SetPartLaw, SetRunLaw, SettleGivesRun, SettleLaw, StayLaw};
 ghost use Rattle.fabric_words.specs.Offsets.{ApartLaw, MapLaw, SetWordLaw, SharedLaw, WithinLaw};
 ghost use Rattle.fabric_words.specs.OwnWords.{PosterIsShown, RingIsLeft, TakenIsShown};
@@ -98,9 +98,11 @@ pub fn opened_words_show_the_opened_core()
     ensures { OpenedLaw }
 {}
 
-/// A core that words show is known by them and by what its seats hold and have done.
+/// A sound core that words show is the one that is computed from them and from what they don't show: where its seats hold an
+/// item or a chunk, the streams of items without a tag, and what the seats have done. Each core has such holdings.
 pub fn words_and_holdings_are_the_core()
-    ensures { ShownIsCoreOf }
+    ensures shown { ShownIsCoreOf }
+    ensures own { EachHasHoldings }
 {}
 
 /// A stream that a seat posted and didn't cancel, and that no tag of queue 0 is, was taken. The part word of an item of queue

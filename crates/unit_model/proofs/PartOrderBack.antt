@@ -2,7 +2,7 @@
 use Rattle.std.proofs.Common.{ℕ, ◌+◌, ◌-◌, ◌^◌, ◌≡◌, ◌≢◌, ◌≤◌, ◌<◌, ◌==◌, ◌&&◌, inl, inr, Bool, true, false, List, [], ◌∷◌, ◌++◌, map, filter, drop, set, length, get_or, refl, sym, ap, ◌∙◌, subst, arith}
 use Rattle.std.proofs.Math.Seq.{get_or-append_seam}
 use Rattle.std.proofs.lemmas.Bool.{cases_eq, ltb-true, eq-eqb, ne_eqb, eqb-false, and_parts}
-use Rattle.std.proofs.lemmas.List.{append-nil, append_assoc, map-append, get_or_append_left, length-append}
+use Rattle.std.proofs.lemmas.List.{append-nil, append_assoc, map-append, get_or_append_left, length-append, nil_from_length}
 use Rattle.std.proofs.lemmas.List.Elements.{filter-append}
 use Rattle.unit_model.specs.Conditions.{has_stream, part_of}
 use Rattle.unit_model.specs.Core.{no_queue, no_seat, queue_of, item_of, role_of, seat_of, first_item}
@@ -35,7 +35,7 @@ use Rattle.unit_model.proofs.StreamSteps.{posted_at_most_once}
 use Rattle.unit_model.proofs.Weights.{is_number_same}
 use Rattle.unit_model.proofs.Presence.{twice_here, twice_elsewhere, hand_is_there}
 use Rattle.unit_model.specs.Premises.{Fills, IsInHand}
-use Rattle.unit_model.specs.PartOrder.{Each, four, line_parts, all_parts, course, IsOrdered, IsPopped, IsUnpushed, Puts, ArmInOrder, PushInOrder, PopInOrder, SettleInOrder, ReceivedInOrder, PoppedIsNext}
+use Rattle.unit_model.specs.PartOrder.{Each, four, line_parts, all_parts, course, IsOrdered, IsPopped, IsUnpushed, Puts, ArmInOrder, PushInOrder, PopInOrder, SettleInOrder, ReceivedInOrder, LastEndsReceived, PoppedIsNext, received_parts}
 
 -- ---- lists
 
@@ -487,6 +487,27 @@ received_in_order popped armed core sound old engine worker stream posts takes p
     let same : get_or got place no_part ≡ get_or (sent_parts core worker stream) place no_part = sym (get_or_append_left got more no_part place inside) ∙ ap (λ (xs : List Part). get_or xs place no_part) all in
     let low : place < length (sent_parts core worker stream) = omega (arith, inside, length-append got more, ap (length {A = Part}) all) in
     (same, ap (λ (p : Part). p.number) same ∙ sound.parts.in_order worker stream place low)
+
+pub last_ends_received : LastEndsReceived
+last_ends_received popped armed core sound old engine worker stream posts takes place inside last =
+    let o : IsOrdered core engine worker stream (popped engine) (armed stream) = old.order engine worker stream posts takes in
+    let rest : List Part = map (part_in core (1 + engine)) (popped engine) ++ (line_parts core (1 + engine) ++ map (part_in core (1 + engine)) (armed stream)) in
+    let got : List Part = received_parts core engine stream in
+    let way : List Part = filter (is_of_stream stream) rest in
+    let more : List Part = way ++ o.gone in
+    let all : got ++ more ≡ sent_parts core worker stream = behind popped armed core engine worker stream o rest refl in
+    let same : get_or got place no_part ≡ get_or (sent_parts core worker stream) place no_part = (received_in_order popped armed core sound old engine worker stream posts takes place inside).0 in
+    let long : length got + length more ≡ length (sent_parts core worker stream) = sym (length-append got more) ∙ ap (length {A = Part}) all in
+    let final : place + 1 ≡ length (sent_parts core worker stream) =
+    sound.parts.last_is_final worker stream place (omega (arith, inside, long)) (ap (λ (p : Part). p.last) (sym same) ∙ last) in
+    let no_more : more ≡ [] = nil_from_length more (omega (arith, final, long, inside)) in
+    let no_way : way ≡ [] = nil_from_length way (omega (arith, final, long, inside, length-append way o.gone)) in (
+      omega (arith, final, long, inside),
+      record {
+        all = sym (append-nil got) ∙ ap (λ (xs : List Part). got ++ xs) (sym no_more) ∙ all;
+        none = filter-append (is_of_stream stream) (seat_of core engine).received rest ∙ ap (λ (xs : List Part). got ++ xs) no_way ∙ append-nil got;
+      },
+    )
 
 pub popped_next : PoppedIsNext
 popped_next popped armed core sound old engine worker stream item posts takes one tag =

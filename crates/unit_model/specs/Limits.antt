@@ -1,9 +1,10 @@
 -- The numbers that bound a fabric, its chunks and its steps.
 use Rattle.std.specs.Prelude.{ℕ, ◌-◌, ◌^◌}
+use Rattle.unit_types.specs.Limits.{chunk_size}
 
 -- bytes of a chunk
 abbrev pub chunk_bytes : ℕ
-chunk_bytes = 16384
+chunk_bytes = chunk_size
 
 -- chunks of a segment
 abbrev pub segment_chunks : ℕ

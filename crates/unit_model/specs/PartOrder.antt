@@ -1,6 +1,6 @@
 -- The parts of a stream that an engine received, and after them those on their way to it, are the sent ones, in their order.
 -- What an engine popped and hasn't settled, and what is armed and not pushed, is told by two functions beside the core.
-use Rattle.std.specs.Prelude.{ℕ, ◌+◌, ◌≡◌, ◌≢◌, ◌≤◌, ◌<◌, List, [], ◌∷◌, ◌++◌, map, filter, length, get_or}
+use Rattle.std.specs.Prelude.{ℕ, ◌+◌, ◌≡◌, ◌≢◌, ◌≤◌, ◌<◌, true, List, [], ◌∷◌, ◌++◌, map, filter, length, get_or}
 use Rattle.unit_model.specs.Core.{queue_of, item_of, role_of, seat_of, number_in, first_item}
 use Rattle.unit_model.specs.Effects.{after_step}
 use Rattle.unit_model.specs.Limits.{past_items}
@@ -59,7 +59,7 @@ pub record IsUnpushed (core : Core) (engine stream item : ℕ) : Type 0 where
   pub tag : (item_of core (1 + engine) item).tag ≡ stream
 
 -- `popped engine` is what the views of an engine say that it popped, and `armed stream` what the view with the stream's
--- work says that it armed: each is of one item at most
+-- work says that it armed; an engine has popped one item at most
 pub record PartsInOrder (popped armed : ℕ → List ℕ) (core : Core) : Type 0 where
   pub one : (engine : ℕ) → length (popped engine) ≤ 1
   pub pops : (engine : ℕ) → Each (IsPopped core engine) (popped engine)
@@ -152,15 +152,37 @@ InOrderAtFirst = (shape : Shape) → PartsInOrder (λ _. []) (λ _. []) (opened_
 
 -- ---- what it says
 
+-- the parts of a stream that an engine received, oldest first
+abbrev pub received_parts : Core → ℕ → ℕ → List Part
+received_parts core engine stream = filter (is_of_stream stream) (seat_of core engine).received
+
 -- what an engine received of a stream is the first of what the worker sent, and their numbers are 0, 1, 2 and so on
 abbrev pub ReceivedInOrder : Type 0
 ReceivedInOrder = (popped armed : ℕ → List ℕ) (core : Core) → IsSound core
     → PartsInOrder popped armed core
     → (engine worker stream : ℕ) → 1 ≤ by_seat posted core engine stream
     → 1 ≤ by_seat taken core worker stream
-    → (place : ℕ) → place < length (filter (is_of_stream stream) (seat_of core engine).received)
-    → (get_or (filter (is_of_stream stream) (seat_of core engine).received) place no_part ≡ get_or (sent_parts core worker stream) place no_part)
-    × ((get_or (filter (is_of_stream stream) (seat_of core engine).received) place no_part).number ≡ place)
+    → (place : ℕ) → place < length (received_parts core engine stream)
+    → (get_or (received_parts core engine stream) place no_part ≡ get_or (sent_parts core worker stream) place no_part)
+    × ((get_or (received_parts core engine stream) place no_part).number ≡ place)
+
+-- the received parts of a stream are all that the worker sent, and no other part of it is popped, in the line, armed or taken
+-- back
+pub record IsReceivedWhole (core : Core) (engine worker stream : ℕ) (popped armed : List ℕ) : Type 0 where
+  pub all : received_parts core engine stream ≡ sent_parts core worker stream
+  pub none : course core engine stream popped armed ≡ received_parts core engine stream
+
+-- Where a received part is the last, it is the final one of them, and behind it none is on its way, nor was one sent. So no other
+-- is the last, and as this holds after each step, none is received behind it.
+abbrev pub LastEndsReceived : Type 0
+LastEndsReceived = (popped armed : ℕ → List ℕ) (core : Core) → IsSound core
+    → PartsInOrder popped armed core
+    → (engine worker stream : ℕ) → 1 ≤ by_seat posted core engine stream
+    → 1 ≤ by_seat taken core worker stream
+    → (place : ℕ) → place < length (received_parts core engine stream)
+    → (get_or (received_parts core engine stream) place no_part).last ≡ true
+    → (place + 1 ≡ length (received_parts core engine stream))
+    × IsReceivedWhole core engine worker stream (popped engine) (armed stream)
 
 -- the part that an engine has popped is the next one
 abbrev pub PoppedIsNext : Type 0
@@ -169,5 +191,4 @@ PoppedIsNext = (popped armed : ℕ → List ℕ) (core : Core) → IsSound core
     → (engine worker stream item : ℕ) → 1 ≤ by_seat posted core engine stream
     → 1 ≤ by_seat taken core worker stream
     → popped engine ≡ item ∷ [] → (item_of core (1 + engine) item).tag ≡ stream
-    → number_in (item_of core (1 + engine) item).part
-    ≡ length (filter (is_of_stream stream) (seat_of core engine).received)
+    → number_in (item_of core (1 + engine) item).part ≡ length (received_parts core engine stream)

@@ -100,7 +100,8 @@ pub(crate) fn is_either<L: Looks>(looks: &L, seat: u32) -> Option<Unmet>
 // 1: the role that a pop of the queue wants.
 pub(crate) fn may_pop<L: Looks>(looks: &L, seat: u32, queue: u32) -> Option<Unmet>
     ensures { result
-        ≡ (if queue == 0 then is_worker (L.core looks.now) seat else is_engine (L.core looks.now) seat) }
+        ≡ (if queue == 0 then is_worker (L.core looks.now) seat
+        else is_engine (L.core looks.now) seat) }
 {
     if queue == 0 {
         is_worker(looks, seat)

@@ -132,7 +132,8 @@ pub fn first_unmet<L: Looks>(looks: &L, step: &Step) -> Option<Unmet>
 
 #[tactic(auto, unfolding(crate::specs::Conditions::conditions_by))]
 fn first_of_claim<L: Looks>(looks: &L, seat: u32, segment: u32, chunk: u32) -> Option<Unmet>
-    ensures { result ≡ first_unmet_by (L.core looks.now) (L.eleventh looks.now) (Step.Claim seat segment chunk) }
+    ensures { result
+        ≡ first_unmet_by (L.core looks.now) (L.eleventh looks.now) (Step.Claim seat segment chunk) }
 {
     first_of(&[
         is_either(looks, seat),
@@ -149,7 +150,9 @@ fn first_of_claim<L: Looks>(looks: &L, seat: u32, segment: u32, chunk: u32) -> O
 
 #[tactic(auto, unfolding(crate::specs::Conditions::conditions_by))]
 fn first_of_release<L: Looks>(looks: &L, seat: u32, segment: u32, chunk: u32) -> Option<Unmet>
-    ensures { result ≡ first_unmet_by (L.core looks.now) (L.eleventh looks.now) (Step.Release seat segment chunk) }
+    ensures { result
+        ≡ first_unmet_by (L.core looks.now) (L.eleventh looks.now)
+        (Step.Release seat segment chunk) }
 {
     let shape = looks.shape();
     let segments = shape.out_segments as u64 + shape.back_segments as u64;
@@ -162,7 +165,9 @@ fn first_of_release<L: Looks>(looks: &L, seat: u32, segment: u32, chunk: u32) ->
 
 #[tactic(auto, unfolding(crate::specs::Conditions::conditions_by))]
 fn first_of_arm<L: Looks>(looks: &L, seat: u32, queue: u32, item: u32, stream: u64) -> Option<Unmet>
-    ensures { result ≡ first_unmet_by (L.core looks.now) (L.eleventh looks.now) (Step.Arm seat queue item stream) }
+    ensures { result
+        ≡ first_unmet_by (L.core looks.now) (L.eleventh looks.now)
+        (Step.Arm seat queue item stream) }
 {
     let run = looks.item_of(queue, item).run;
     first_of(&[

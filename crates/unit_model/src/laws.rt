@@ -8,7 +8,7 @@ ghost use Rattle.unit_model.specs.Effects.{after_step};
 ghost use Rattle.unit_model.specs.Holding.{HasNoStreamZero, IsHeldRight};
 ghost use Rattle.unit_model.specs.Opening.{opened_core};
 ghost use Rattle.unit_model.specs.OwnLists.{HolderSentLaw, OwnSendLaw, WasPostedLaw, WasTakenLaw};
-ghost use Rattle.unit_model.specs.PartOrder.{ArmInOrder, CloseInOrder, InOrderAtFirst, OthersInOrder, PopInOrder, PoppedIsNext, PushInOrder, ReceivedInOrder, SettleInOrder};
+ghost use Rattle.unit_model.specs.PartOrder.{ArmInOrder, CloseInOrder, InOrderAtFirst, LastEndsReceived, OthersInOrder, PopInOrder, PoppedIsNext, PushInOrder, ReceivedInOrder, SettleInOrder};
 ghost use Rattle.unit_model.specs.Running.{AllEnabled, Enabled, after_steps};
 ghost use Rattle.unit_model.specs.Shapes.{IsValid};
 ghost use Rattle.unit_model.specs.Sound.{AllChunksAreFree, HasNoChunkWithSeats, HasNoTag, HasSoundHoldings, NamesWhatIsThere};
@@ -139,7 +139,8 @@ pub fn the_account_is_whole()
 
 /// The parts of a stream that its engine received, popped and not settled, in its line, and armed and not pushed are, joined,
 /// those that the worker sent, in their order, but for at most one last part that was taken back. An engine has at most one
-/// popped part that it hasn't settled. So it is at first, and each enabled step keeps it.
+/// popped part that it hasn't settled. So it is at first, and each enabled step keeps it where an engine pops only when it has
+/// settled what it popped; what is popped and armed changes with Arm, Push, Pop and Settle.
 pub fn parts_stay_in_order()
     ensures at_first { InOrderAtFirst }
     ensures arm { ArmInOrder }
@@ -151,8 +152,9 @@ pub fn parts_stay_in_order()
 {}
 
 /// So an engine receives the parts of a stream as 0, 1, 2 and so on, each as it was sent, and the one that it has popped is
-/// the next.
+/// the next. They end with the last: a received part that is the last is the final one, and nothing comes behind it.
 pub fn parts_are_received_in_order()
     ensures received { ReceivedInOrder }
+    ensures last { LastEndsReceived }
     ensures popped { PoppedIsNext }
 {}

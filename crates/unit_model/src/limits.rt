@@ -1,7 +1,9 @@
 //! The numbers that bound a fabric, its chunks and its steps. The definitions are in `specs/Limits.antt`.
 
-/// Bytes of a chunk.
-pub const CHUNK_BYTES: u32 = 16384;
+use unit_types::CHUNK_SIZE;
+
+/// Bytes of a chunk, in the type of a run's size.
+pub const CHUNK_BYTES: u32 = CHUNK_SIZE as u32;
 
 /// Chunks of a segment.
 pub const SEGMENT_CHUNKS: u64 = 640;

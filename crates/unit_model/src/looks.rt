@@ -50,12 +50,14 @@ pub trait Looks {
     /// The first place of a queue's free list, or where it is empty the place behind it.
     fn free_place(&self, queue: u32) -> u64
         ensures { result
-            ≡ first_place (queue_of (core self.now) queue).free (queue_of (core self.now) queue).next_free };
+            ≡ first_place (queue_of (core self.now) queue).free
+            (queue_of (core self.now) queue).next_free };
 
     /// The first place of a queue's line, or where it is empty the place behind it.
     fn line_place(&self, queue: u32) -> u64
         ensures { result
-            ≡ first_place (queue_of (core self.now) queue).line (queue_of (core self.now) queue).next_line };
+            ≡ first_place (queue_of (core self.now) queue).line
+            (queue_of (core self.now) queue).next_line };
 
     /// The place behind a queue's free list.
     fn next_free(&self, queue: u32) -> u64
@@ -109,7 +111,8 @@ fn first_item(entries: &[Entry]) -> u64
 // Whether an item of this tag is where this code says.
 fn has_held(code: u64, tag: u64, items: &[Item]) -> bool
     ensures { result
-        ≡ list_any (λ item. whereabouts_code item.whereabouts == code && item.tag == tag) items.now }
+        ≡ list_any (λ item. whereabouts_code item.whereabouts == code && item.tag == tag)
+        items.now }
 {
     items
         .iter()

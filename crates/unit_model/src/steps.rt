@@ -57,7 +57,8 @@ pub fn run_core(core: &mut Core, steps: &[Step]) -> Result<(), RunFault>
     ensures done { OnOk result (core.new ≡ after_steps core.old steps.now) }
     ensures at { IfErr result (λ fault. fault.at < length steps.now) }
     ensures before { IfErr result (λ fault. AllEnabled core.old (take fault.at steps.now)) }
-    ensures stopped { IfErr result (λ fault. core.new ≡ after_steps core.old (take fault.at steps.now)) }
+    ensures stopped { IfErr result (λ fault. core.new
+        ≡ after_steps core.old (take fault.at steps.now)) }
     ensures cause { IfErr result (λ fault. (step : Step)
         → slice_get steps.now fault.at ≡ Some step
         → IsFaultOf (first_unmet core.new step) fault.fault) }

@@ -30,7 +30,8 @@ fn parts_in(stream: u64, parts: &[Part]) -> u64
 // Whether the seats sent this number of parts of the stream.
 fn is_sent(seats: &[Seat], stream: u64, number: u64) -> bool
     ensures { result
-        ≡ (number == weigh (λ lists. count_by (λ part. part.stream == stream) lists.sent) seats.now) }
+        ≡ (number == weigh (λ lists. count_by (λ part. part.stream == stream) lists.sent)
+        seats.now) }
 {
     match seats {
         [] => number == 0,
@@ -115,7 +116,8 @@ impl Core {
 
     fn has_received_last(&self, seat: u32, stream: u64) -> bool
         ensures { result
-            ≡ list_any (λ part. part.stream == stream && part.last) (seat_of self.now seat).received }
+            ≡ list_any (λ part. part.stream == stream && part.last)
+            (seat_of self.now seat).received }
     {
         match self.seat(seat) {
             Some(lists) => has_last(stream, lists.received.as_slice()),
