@@ -11,7 +11,8 @@ fn fill_free(words: &mut [u64], size: u32, start: u64)
     requires size { (1 ≤ size) × (size ≤ 16384) × (size ≤ start) × (start ≤ 4611686018427371519) }
     requires wide { length words.old ≡ 112 + 5 * size }
     ensures filled { (value : ℕ) → value < size
-        → slice_index words.new (48 + (start + value) % size) ≡ entry_of size (start + value) value }
+        → slice_index words.new (48 + (start + value) % size)
+        ≡ entry_of size (start + value) value }
     ensures others { (i : ℕ) → (i < 48) ⊎ (48 + size ≤ i)
         → slice_index words.new i ≡ slice_index words.old i }
 {

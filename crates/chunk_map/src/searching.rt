@@ -12,7 +12,7 @@ ghost use Rattle.chunk_map.specs.Words.{is_free};
 
 use crate::search::{first_from, run_starts};
 use crate::single::MapSteps;
-use unit_model::{Run, Seen};
+use unit_model::{CHUNK_BYTES, Run, Seen};
 
 /// What a claim gave.
 #[derive(Debug, Drop)]
@@ -28,7 +28,7 @@ fn chunk_count(size: u32) -> usize
     requires { (1 ≤ size) × (size ≤ 10485760) }
     ensures { (result ≡ chunks_for size) × (1 ≤ result) × (result ≤ 640) }
 {
-    size.div_ceil(16384) as usize
+    size.div_ceil(CHUNK_BYTES) as usize
 }
 
 // No chunk was found free.

@@ -37,7 +37,11 @@ impl Model for Book {
 
     ghost view = { λ b. record { documents = b.documents.items; configurations = map numbered b.currents.items; names = b.names.items } };
 
-    ghost invariant = { λ b. IsBook (record { documents = b.documents.items; configurations = map numbered b.currents.items; names = b.names.items }) };
+    ghost invariant = { λ b. IsBook (record {
+      documents = b.documents.items;
+      configurations = map numbered b.currents.items;
+      names = b.names.items;
+    }) };
 }
 
 impl Book {

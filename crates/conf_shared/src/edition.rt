@@ -152,7 +152,8 @@ impl Edition {
         requires book { self.old.seen.book ≡ J.history }
         requires begins { IsPrefix self.old.seen.log (bare_configurations (map numbered list.now)) }
         ensures book { self.new.seen.book ≡ J.history }
-        ensures all { OnOk result (self.new.seen.log ≡ bare_configurations (map numbered list.now)) }
+        ensures all { OnOk result (self.new.seen.log
+            ≡ bare_configurations (map numbered list.now)) }
         ensures longer { IsPrefix self.old.seen.log self.new.seen.log }
         ensures within { IsPrefix self.new.seen.log (bare_configurations (map numbered list.now)) }
     {

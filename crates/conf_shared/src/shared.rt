@@ -180,7 +180,8 @@ fn show<J: Naming, R: Wait>(
                 (drop writer.behind writer.log.items)).book ≡ J.history }
             ensures { MatchResult result.1
                 (λ _. result.0.desk.shown.value.seen
-                ≡ newest (λ e. e.seen) writer.desk.shown.value.seen (drop writer.behind writer.log.items))
+                ≡ newest (λ e. e.seen) writer.desk.shown.value.seen
+                (drop writer.behind writer.log.items))
                 (λ _. result.0.desk.shown.value ≡ writer.desk.shown.value) }
         { show_pending::<J, R>(rt, writer) },
     )

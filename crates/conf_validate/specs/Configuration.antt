@@ -3,6 +3,7 @@ use Rattle.std.specs.Prelude.{ℕ, suc, ◌+◌, ◌^◌, ◌==◌, nat_lt, nat_
 use Rattle.std.specs.List.{flat_map, list_any}
 use Rattle.std.specs.Option.{option_to_list, unwrap_or}
 use Rattle.std.specs.Str.{bytes_eq, str_to_ascii_lowercase}
+use Rattle.unit_types.specs.Limits.{default_content_limit}
 use Rattle.unit_types.specs.Names.{index_of_name}
 use Rattle.pattern_addr.specs.AddressPattern.{AddressPattern, address_pattern_of}
 use Rattle.serde_json.specs.Data.{Num, unsigned, negative, float, Data, null, boolean, number, string, array, object, Items, no_items, item, Members, no_members, member}
@@ -261,10 +262,10 @@ destinations_of document =
 
 -- ---- settings
 
--- the largest content of a request, 8,388,608 bytes where the document says nothing
+-- the largest content of a request, the usual one where the document says nothing
 abbrev pub max_body_of : Data → ℕ
 max_body_of document =
-    unwrap_or (number_in (part (codes "max_body_size") (part (codes "http") (get (codes "settings") document)))) 8388608
+    unwrap_or (number_in (part (codes "max_body_size") (part (codes "http") (get (codes "settings") document)))) default_content_limit
 
 abbrev pub default_format : List ℕ
 default_format = codes "$remote_addr \"$request_line\" $status $body_bytes_sent \"$header_referer\" \"$header_user_agent\""

@@ -1,6 +1,7 @@
 -- What each configuration keeps: the ranges of its numbers, the forms of its texts, the order of its names, and that what
 -- can be named is there.
 use Rattle.std.specs.Prelude.{◌≡◌, ℕ, ◌+◌, ◌<◌, ◌≤◌, List, [], ◌∷◌, length, map, All, Option, IfSome, IsTrue}
+use Rattle.unit_types.specs.Limits.{content_limit_max}
 use Rattle.unit_types.specs.Names.{AscendsBy}
 use Rattle.conf_validate.specs.Configuration.{Configuration, action_goal, plain_goal}
 use Rattle.conf_validate.specs.Forms.{has_variables, is_header_name, is_location, is_log_format, is_rewrite, is_text_pattern}
@@ -73,7 +74,7 @@ pub record IsKept (conf : Configuration) : Type 0 where
   pub destinations : All (λ d. IsThere conf d.goal) conf.destinations
   pub destination_names : AscendsBy (λ d. d.name) conf.destinations
   pub steps : All IsKeptStep conf.steps
-  pub max_body : conf.max_body ≤ 10000000
+  pub max_body : conf.max_body ≤ content_limit_max
   pub log_format : IfSome conf.log_format (λ text. IsTrue (is_log_format text))
 
 -- a configuration, and where the passes of its listeners and steps lead

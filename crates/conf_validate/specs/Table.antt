@@ -2,6 +2,7 @@
 use Rattle.std.specs.Prelude.{ℕ, Bool, true, false, List, [], ◌∷◌, codes, Option, Some, None, if◌then◌else◌}
 use Rattle.std.specs.Str.{bytes_eq}
 use Rattle.serde_json.specs.Data.{Data, Members}
+use Rattle.unit_types.specs.Limits.{content_limit_max}
 use Rattle.conf_validate.specs.Choices.{is_choice}
 use Rattle.conf_validate.specs.Forms.{has_form}
 use Rattle.conf_validate.specs.Targets.{is_pass}
@@ -79,7 +80,7 @@ row_of place.Limits = an_object names.Fixed
 row_of place.Timeout = a_number 1 86400
 row_of place.Settings = an_object names.Fixed
 row_of place.Http = an_object names.Fixed
-row_of place.MaxBodySize = a_number 0 10000000
+row_of place.MaxBodySize = a_number 0 content_limit_max
 row_of place.AccessLog = an_object names.Fixed
 row_of place.Format = a_text form.Format
 

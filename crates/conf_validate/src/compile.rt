@@ -13,7 +13,7 @@ use crate::routes::steps_of;
 use crate::values::{number_in, part, text_in};
 use conf_tree::Tree;
 use std::alloc::{AllocError, Global};
-use unit_types::Bytes;
+use unit_types::{Bytes, DEFAULT_CONTENT_LIMIT};
 
 /// What the document says.
 pub(crate) fn configuration_of(alloc: Global, document: &Tree) -> Result<Conf, AllocError>
@@ -47,7 +47,7 @@ fn max_body_of(document: &Tree) -> u64
     let http = part(member_of(document, b"settings"), b"http");
     match number_in(part(http, b"max_body_size")) {
         Some(size) => size,
-        None => 8_388_608,
+        None => DEFAULT_CONTENT_LIMIT,
     }
 }
 

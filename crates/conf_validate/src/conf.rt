@@ -127,7 +127,14 @@ impl Model for Conf {
 
     ghost view = { λ c. record { applications = c.applications.items; listeners = c.listeners.items; destinations = c.destinations.items; steps = c.steps.items; max_body = c.max_body; log_format = c.log_format } };
 
-    ghost invariant = { λ c. IsCompiled (record { applications = c.applications.items; listeners = c.listeners.items; destinations = c.destinations.items; steps = c.steps.items; max_body = c.max_body; log_format = c.log_format }) c.listener_goals.items c.step_goals.items };
+    ghost invariant = { λ c. IsCompiled (record {
+      applications = c.applications.items;
+      listeners = c.listeners.items;
+      destinations = c.destinations.items;
+      steps = c.steps.items;
+      max_body = c.max_body;
+      log_format = c.log_format;
+    }) c.listener_goals.items c.step_goals.items };
 }
 
 impl Conf {

@@ -2,6 +2,8 @@
 ghost use Rattle.std.specs.Prelude.{◌≡◌};
 ghost use Rattle.conf_validate.specs.Table.{row_of, nothing, a_number, a_text, a_text_or_null, a_text_or_array, an_array, an_object, an_object_or_array};
 
+use unit_types::CONTENT_LIMIT_MAX;
+
 /// A place of a configuration.
 #[derive(Debug, Clone, Copy, Drop)]
 pub(crate) enum Place {
@@ -208,7 +210,7 @@ impl Place {
             Place::Type => Row::text(Form::External),
             Place::Executable => Row::text(Form::Handler),
             Place::Timeout => Row::number(1, 86_400),
-            Place::MaxBodySize => Row::number(0, 10_000_000),
+            Place::MaxBodySize => Row::number(0, CONTENT_LIMIT_MAX),
             Place::Format => Row::text(Form::Format),
         }
     }

@@ -92,7 +92,11 @@ fn push_named(
     ensures steps { OnOk result
         (steps.new.items ≡ steps.old.items ++ map step_of (items_of (data_of route.now.value))) }
     ensures destinations { OnOk result (destinations.new.items
-        ≡ destinations.old.items ++ record { name = codes "routes/" ++ route.now.key; goal = goal.Route (length steps.old.items) (length (items_of (data_of route.now.value))) } ∷ []) }
+        ≡ destinations.old.items ++ record {
+          name = codes "routes/" ++ route.now.key;
+          goal = goal.Route (length steps.old.items) (length (items_of (data_of route.now.value)));
+        }
+        ∷ []) }
 {
     let first = steps.len();
     push_route(alloc, steps, &route.value)?;

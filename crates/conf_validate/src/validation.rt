@@ -1,8 +1,9 @@
 //! Validation.
-ghost use Rattle.std.specs.Prelude.{◌≡◌, ◌≤◌, All, length, MatchResult, Some, None};
+ghost use Rattle.std.specs.Prelude.{◌≡◌, All, MatchResult, Some, None};
 ghost use Rattle.conf_tree.specs.Document.{IsDocument};
 ghost use Rattle.conf_tree.specs.View.{data_of};
 ghost use Rattle.conf_validate.specs.Answers.{IsConfiguration, IsRefusal};
+ghost use Rattle.unit_types.specs.Limits.{IsShortName};
 
 use crate::compile::configuration_of;
 use crate::conf::Conf;
@@ -18,7 +19,7 @@ use unit_types::Bytes;
 /// of memory.
 pub fn validate(alloc: Global, document: &Tree, handlers: &[Bytes]) -> Result<Conf, ConfFault>
     requires document { IsDocument (data_of document.now) }
-    requires short { All (λ name. length name ≤ 255) handlers.now }
+    requires short { All IsShortName handlers.now }
     ensures { MatchResult result (IsConfiguration (data_of document.now) handlers.now)
         (IsRefusal (data_of document.now) handlers.now) }
 {

@@ -11,7 +11,8 @@ use http_front::laws_of_units;
 pub fn decided_requests_stay()
     ensures { (documents : List Data) (names : List (List ℕ)) (bytes more : List ℕ) (ended : Bool)
         → (next_unit bytes false content_limit).found ≢ wait
-        → control_reply documents names (bytes ++ more) ended ≡ control_reply documents names bytes false }
+        → control_reply documents names (bytes ++ more) ended
+        ≡ control_reply documents names bytes false }
 {
     laws_of_units();
 }

@@ -13,7 +13,8 @@ ghost use Rattle.header_rewrite.specs.Rewrite.{rewritten_by, rewritten_of, rewri
 
 /// The path of a rewritten target is the rewritten path: its raw path, made normal, is that path again.
 pub fn rewritten_targets_have_their_paths()
-    ensures { (text : List ℕ) (request : Request) → All (λ b. b < 2 ^ 8) (rewritten_path text request)
+    ensures { (text : List ℕ) (request : Request)
+        → All (λ b. b < 2 ^ 8) (rewritten_path text request)
         → normal_path_of (raw_path_of (rewritten_by text request).target)
         ≡ (rewritten_by text request).path }
 {}

@@ -22,7 +22,8 @@ pub fn laws_of_units()
         → next_unit (bytes ++ more) ended limit ≡ next_unit bytes false limit }
     ensures begun { (bytes more : List ℕ) → HeadBegun bytes → HeadBegun (bytes ++ more) }
     ensures due { (bytes more : List ℕ) (ended : Bool) (limit : ℕ) → HeadBegun bytes
-        → (next_unit (bytes ++ more) ended limit).continue_due ≡ (next_unit bytes false limit).continue_due }
+        → (next_unit (bytes ++ more) ended limit).continue_due
+        ≡ (next_unit bytes false limit).continue_due }
     ensures begins { (bytes : List ℕ) (ended : Bool) (limit : ℕ)
         → IsTrue (next_unit bytes ended limit).continue_due → HeadBegun bytes }
     ensures tells { (bytes : List ℕ) (limit : ℕ) → (next_unit bytes true limit).found ≢ wait }
@@ -72,7 +73,8 @@ pub fn laws_of_answers()
 /// The session of bytes that go on begins with the session of a front of them.
 pub fn laws_of_sessions()
     ensures { (c : Connection) (ended : Bool) (bytes more : List ℕ) → (rest : List ℕ)
-        × ((plain_session_of c ended (bytes ++ more)).written ≡ (plain_session_of c false bytes).written ++ rest) }
+        × ((plain_session_of c ended (bytes ++ more)).written
+        ≡ (plain_session_of c false bytes).written ++ rest) }
 {}
 
 /// The law of `chunk_size_of`: a line says a size exactly where the grammar of `httparse` has it as a line of that size.

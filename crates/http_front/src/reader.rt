@@ -75,7 +75,9 @@ impl Model for Reader {
       };
     } };
 
-    ghost invariant = { λ r. (r.used ≤ length r.bytes.items) × Knows r.progress (drop r.used r.bytes.items) r.limit r.is_told × (r.mark.used ≤ r.mark.len) × (r.mark.len ≤ length r.bytes.items) };
+    ghost invariant = { λ r. (r.used ≤ length r.bytes.items)
+        × Knows r.progress (drop r.used r.bytes.items) r.limit r.is_told
+        × (r.mark.used ≤ r.mark.len) × (r.mark.len ≤ length r.bytes.items) };
 }
 
 impl Reader {

@@ -30,7 +30,11 @@ impl Search {
     pub(crate) fn from_blank(self) -> Search
         requires { (self.blank ≤ self.line) × (self.blank ≤ self.searched) }
         ensures { result
-            ≡ record { blank = 0; line = self.line - self.blank; searched = self.searched - self.blank } }
+            ≡ record {
+              blank = 0;
+              line = self.line - self.blank;
+              searched = self.searched - self.blank;
+            } }
     {
         Search {
             blank: 0,

@@ -54,7 +54,8 @@ fn matches_some_end<I: Iterator<Item = u8> + Copy>(
     requires can { I.can_next text }
     requires ends { IsFinite (I.remaining text) }
     ensures { (bytes : List ℕ) → AlwaysYields I.next_gives (λ b. b) text bytes
-        → result ≡ some_end (text_matches (folded_all case pattern.entry.now)) (folded_all case bytes) }
+        → result ≡ some_end (text_matches (folded_all case pattern.entry.now))
+        (folded_all case bytes) }
 {
     while !pattern.is_empty() {
         match pass_part(pattern, text, case) {

@@ -54,7 +54,8 @@ pub fn run_words_are_inverse()
     ensures unpacked { (word : ℕ) (run : Run)
         → unpack_of word ≡ Some run → IsTrue (is_in_segment run) × (pack_of run ≡ word) }
     // The word of any run has the run's numbers, and a word is that of its numbers.
-    ensures numbers { (run : Run) → run.chunk < 2 ^ 16 → run.size < 2 ^ 32 → numbers_of (pack_of run) ≡ run }
+    ensures numbers { (run : Run) → run.chunk < 2 ^ 16 → run.size < 2 ^ 32
+        → numbers_of (pack_of run) ≡ run }
     ensures word { (word : ℕ) → pack_of (numbers_of word) ≡ word }
     // No two runs have one word.
     ensures distinct { (a : Run) (b : Run)

@@ -96,7 +96,8 @@ impl<H: Handlers> Collector<H> {
     /// has one record, so this is comparing requests. Takes no memory.
     pub fn over(alloc: Global, posted: Bytes) -> Collector<H>
         requires { (asked : Asked) × IsRecordOf posted (Some asked) }
-        ensures { (asked : Asked) → IsRecordOf posted (Some asked) → result ≡ record { asked = asked; next = 0 } }
+        ensures { (asked : Asked) → IsRecordOf posted (Some asked)
+            → result ≡ record { asked = asked; next = 0 } }
     {
         Collector {
             asked: Kept::over(posted),
@@ -148,7 +149,8 @@ impl<H: Handlers> Collector<H> {
     fn reply(&self, alloc: Global, pieces: &Pieces<H>) -> Result<Reply, AllocError>
         requires parcels { pieces.now.parcels ≡ answers_of H.reply_of self.now.asked self.now.next }
         requires last { self.now.next + 1 ≡ part_count H.reply_of self.now.asked }
-        ensures { IfOk result (λ reply. reply ≡ H.reply_of self.now.asked.name self.now.asked.request) }
+        ensures { IfOk result (λ reply. reply
+            ≡ H.reply_of self.now.asked.name self.now.asked.request) }
     {
         let size = size_of_texts(&self.kept).saturating_add(size_of_pieces(pieces));
         let mut bytes = Vec::with_capacity(alloc, size)?;
@@ -170,7 +172,8 @@ impl<H: Handlers> Collector<H> {
         requires parcels { pieces.old.parcels ≡ answers_of H.reply_of self.old.asked self.old.next }
         requires within { self.old.next < part_count H.reply_of self.old.asked }
         requires last { IsTrue last ↔ (self.old.next + 1 ≡ part_count H.reply_of self.old.asked) }
-        ensures answer { IfOk result (Accepts H.reply_of self.old self.new self.old.asked self.old.next last) }
+        ensures answer { IfOk result
+            (Accepts H.reply_of self.old self.new self.old.asked self.old.next last) }
         ensures emptied { OnOk result (IsEmptied pieces.old pieces.new) }
         ensures kept { OnErr result (self.new ≡ self.old) }
         ensures pieces_kept { OnErr result (pieces.new ≡ pieces.old) }
@@ -193,8 +196,10 @@ impl<H: Handlers> Collector<H> {
         last: bool,
         pieces: &mut Pieces<H>,
     ) -> Result<Part, AllocError>
-        requires { IsPart H.reply_of (arc_value found) (arc_value found).stream part last pieces.old.parcels }
-        ensures answer { IfOk result (Accepts H.reply_of self.old self.new (arc_value found) part last) }
+        requires { IsPart H.reply_of (arc_value found) (arc_value found).stream part last
+            pieces.old.parcels }
+        ensures answer { IfOk result
+            (Accepts H.reply_of self.old self.new (arc_value found) part last) }
         ensures emptied { OnOk result (IsEmptied pieces.old pieces.new) }
         ensures kept { OnErr result (self.new ≡ self.old) }
         ensures pieces_kept { OnErr result (pieces.new ≡ pieces.old) }
@@ -225,7 +230,9 @@ impl<H: Handlers> Collector<H> {
         pieces: &mut Pieces<H>,
     ) -> Result<Part, AllocError>
         requires { (found : Asked) × IsPart H.reply_of found stream part last pieces.old.parcels }
-        ensures answer { IfOk result (λ answer. (found : Asked) → IsPart H.reply_of found stream part last pieces.old.parcels → Accepts H.reply_of self.old self.new found part last answer) }
+        ensures answer { IfOk result (λ answer. (found : Asked)
+            → IsPart H.reply_of found stream part last pieces.old.parcels
+            → Accepts H.reply_of self.old self.new found part last answer) }
         ensures emptied { OnOk result (IsEmptied pieces.old pieces.new) }
         ensures kept { OnErr result (self.new ≡ self.old) }
         ensures pieces_kept { OnErr result (pieces.new ≡ pieces.old) }

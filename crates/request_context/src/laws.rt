@@ -9,12 +9,14 @@ ghost use Rattle.request_context.specs.Record.{HasRecord, HasReplyRecord, IsReco
 
 /// No request record begins another one, and two that are equal are of one request.
 pub fn request_records_differ()
-    ensures { (a : Asked) (b : Asked) (rest : List ℕ) → HasRecord a → HasRecord b → request_record a ++ rest ≡ request_record b → (a ≡ b) × (rest ≡ []) }
+    ensures { (a : Asked) (b : Asked) (rest : List ℕ) → HasRecord a → HasRecord b
+        → request_record a ++ rest ≡ request_record b → (a ≡ b) × (rest ≡ []) }
 {}
 
 /// No reply record begins another one, and two that are equal are of one reply.
 pub fn reply_records_differ()
-    ensures { (a : Reply) (b : Reply) (rest : List ℕ) → HasReplyRecord a → HasReplyRecord b → reply_record a ++ rest ≡ reply_record b → (a ≡ b) × (rest ≡ []) }
+    ensures { (a : Reply) (b : Reply) (rest : List ℕ) → HasReplyRecord a → HasReplyRecord b
+        → reply_record a ++ rest ≡ reply_record b → (a ≡ b) × (rest ≡ []) }
 {}
 
 /// The length of a request record is the sum of its parts' lengths.
@@ -24,7 +26,8 @@ pub fn request_record_length()
 
 /// A request whose record is short can be written: each length and the number of its fields fit.
 pub fn short_requests_can_be_written()
-    ensures { (asked : Asked) → asked.request.minor ≤ 1 → request_record_size asked ≤ record_limit → IsRecordable asked }
+    ensures { (asked : Asked) → asked.request.minor ≤ 1 → request_record_size asked ≤ record_limit
+        → IsRecordable asked }
 {}
 
 /// The length of a reply record is the sum of its parts' lengths.

@@ -38,7 +38,12 @@ impl<H: Handlers> Piece<H> {
     /// There is such a piece, and the bytes are those of it.
     pub fn of(asked: Arc<Asked>, part: u32, index: u32, bytes: Bytes) -> Piece<H>
         requires { IsPiece H.reply_of (arc_value asked) part index bytes }
-        ensures { result ≡ record { asked = arc_value asked; part = part; index = index; bytes = bytes } }
+        ensures { result ≡ record {
+          asked = arc_value asked;
+          part = part;
+          index = index;
+          bytes = bytes;
+        } }
     {
         Piece {
             asked,
@@ -73,7 +78,8 @@ impl<H: Handlers> Piece<H> {
     /// The bytes, which are those of this piece of this part of the reply to what was asked; there is such a piece.
     pub fn bytes(&self) -> &[u8]
         ensures value { result.now ≡ self.now.bytes }
-        ensures kept { IsPiece H.reply_of self.now.asked self.now.part self.now.index self.now.bytes }
+        ensures kept { IsPiece H.reply_of self.now.asked self.now.part self.now.index
+            self.now.bytes }
     {
         self.bytes.as_slice()
     }

@@ -76,7 +76,9 @@ impl<H: Handlers> Pieces<H> {
 
     /// Takes the first parcel out, if there is one; the spare rises by one.
     pub fn pop(&mut self) -> Option<Parcel<H>>
-        ensures { MatchOption result ((self.old.parcels ≡ []) × (self.new ≡ self.old)) (λ parcel. (self.old.parcels ≡ parcel ∷ self.new.parcels) × (self.new.spare ≡ self.old.spare + 1)) }
+        ensures { MatchOption result ((self.old.parcels ≡ []) × (self.new ≡ self.old))
+            (λ parcel. (self.old.parcels ≡ parcel ∷ self.new.parcels)
+            × (self.new.spare ≡ self.old.spare + 1)) }
     {
         self.parcels.pop_front()
     }

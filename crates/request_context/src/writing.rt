@@ -154,7 +154,8 @@ pub fn record_of(
     request: &Request,
 ) -> Result<Bytes, AllocError>
     requires { IsRecordable (asked_with stream name.now request.now) }
-    ensures { IfOk result (λ bytes. bytes ≡ request_record (asked_with stream name.now request.now)) }
+    ensures { IfOk result (λ bytes. bytes
+        ≡ request_record (asked_with stream name.now request.now)) }
 {
     let mut out = Vec::with_capacity(alloc, size_of_record(name, request))?;
     put_u64(&mut out, stream)?;

@@ -10,7 +10,8 @@ use Rattle.unit_types.specs.Text.{cut}
 use Rattle.script_frames.specs.Frames.{Frame, Control, Connection, HungUp, Framed, Kind, control, connection, hung_up, behind_line, first_frame, frame_of, framed, frames_of, head_by_word, head_of, is_listener, length_of, listener_head, most_bytes, with_bytes}
 use Rattle.script_frames.specs.Spelling.{AreFrames, IsFrame, IsListener, counted, frame_text, frames_text, has_byte}
 use Rattle.script_frames.proofs.FrameLemmas.{frames_behind, no_frame, shorter}
-use Rattle.script_frames.proofs.SpellingLemmas.{cut_at, cut_clean, cut_joined, decimal_no_byte, length_back, length_spelled, no_byte_both, no_byte_in}
+use Rattle.unit_types.proofs.SpelledLemmas.{cut_at, cut_clean, cut_joined, no_byte_both, no_byte_in}
+use Rattle.script_frames.proofs.SpellingLemmas.{decimal_no_byte, length_back, length_spelled}
 
 -- ---- what is spelled is read
 

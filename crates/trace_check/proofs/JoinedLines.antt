@@ -8,7 +8,8 @@ use Rattle.std.proofs.lemmas.Fmt.{digits_decimal, length-decimal-le}
 use Rattle.std.proofs.lemmas.List.{append_assoc}
 use Rattle.std.proofs.lemmas.List.Folds.{list_any-append}
 use Rattle.trace_check.proofs.OneSpelling.{one_spelling}
-use Rattle.trace_check.proofs.ReadBack.{digit_in, own, parts_false, read_back}
+use Rattle.trace_check.proofs.ReadBack.{read_back}
+use Rattle.unit_types.proofs.SpelledLemmas.{digit_in, own, parts_false}
 use Rattle.trace_check.proofs.ShapeLines.{shape_back, shape_spelled, valid_fits}
 use Rattle.trace_check.specs.ReadBack.{FitsStep}
 use Rattle.trace_check.specs.Traces.{AllFit, IsTraceOf, Say, SayShape, SaySteps, shape_line, shape_numbers, trace_of}

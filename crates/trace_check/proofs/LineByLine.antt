@@ -3,6 +3,7 @@ use Rattle.std.proofs.Common.{◌≡◌, ◌≢◌, ◌∙◌, ⊎_elim, ℕ, �
 use Rattle.std.specs.List.{list_any}
 use Rattle.std.proofs.lemmas.List.{append-nil}
 use Rattle.std.proofs.lemmas.Bool.{cases_eq, cases_lt, ne_eqb, le-leb, lt-leb}
+use Rattle.unit_types.proofs.SpelledLemmas.{parts_false}
 use Rattle.trace_check.specs.Bytes.{after_byte, after_bytes}
 use Rattle.trace_check.specs.Verdicts.{Judged, Line, Passed, and_then, before_lines, beginning, decided, decides, going, lines_of, on_line, on_rest, passes, standing_after, standing_of}
 use Rattle.trace_check.specs.declared.verdict.Verdict.TheVariants.{Broken}
@@ -12,10 +13,6 @@ use Rattle.trace_check.proofs.Stood.{after_both, decided_stays}
 -- no byte of the text is LF
 abbrev pub has_end : List ℕ → Bool
 has_end text = list_any (λ b. b == 10) text
-
-parts_false : (b c : Bool) → (b || c) ≡ false → (b ≡ false) × (c ≡ false)
-parts_false true c e = absurd (cc e)
-parts_false false c e = (refl, e)
 
 -- a text without LF stands in front of the first line
 lines_ended : (text bytes : List ℕ) → has_end text ≡ false → lines_of (text ++ 10 ∷ bytes) ≡ (record { text = text; is_ended = true }) ∷ lines_of bytes

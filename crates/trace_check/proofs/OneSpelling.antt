@@ -9,9 +9,9 @@ use Rattle.std.proofs.lemmas.List.{append-nil, drop_more, take-append-drop}
 use Rattle.std.proofs.lemmas.List.Sums.{passes_at_first}
 use Rattle.std.proofs.lemmas.Option.{cond_some, option_and_then_some, same_Some}
 use Rattle.std.proofs.lemmas.Slice.Eq.{bytes_eq-Decides}
-use Rattle.trace_check.proofs.ReadBack.{own}
 use Rattle.trace_check.specs.Lines.{item_step, kind_of, on_item, run_of, seat_and_chunk, seat_and_number, set_run_of, step_of, step_with, u16_limit, u32_limit, u64_limit}
-use Rattle.trace_check.specs.Numbers.{cut, decimal_value, digits_of, first_number, has_leading_zero, number_of}
+use Rattle.trace_check.specs.Numbers.{cut, first_number, number_of}
+use Rattle.unit_types.proofs.SpelledLemmas as spelled
 use Rattle.trace_check.specs.ReadBack.{FitsOnItem, FitsStep}
 use Rattle.trace_check.specs.declared.line.ItemKind.{ItemKind}
 use Rattle.trace_check.specs.declared.line.ItemKind.TheVariants as on
@@ -25,50 +25,16 @@ use Rattle.unit_model.specs.declared.machine.Step.TheVariants.{Draw, Claim, Rele
 
 -- ---- numbers
 
--- only `0` itself begins with 0
-alone : (ds : List ℕ) → has_leading_zero ds ≡ false → get_or ds 0 0 ≡ 48 → 0 < length ds → length ds ≡ 1
-alone [] plain zero some = absurd (omega arith)
-alone (d ∷ []) plain zero some = refl
-alone (d ∷ e ∷ ds) plain zero some = let bad : (48 == 48) ≡ false = ap (λ x. x == 48) (sym zero) ∙ plain in absurd (cc bad)
-
 -- what a number that was read is to the text
 abbrev pub IsSpelledBy : ℕ → ℕ → List ℕ → Type 0
 IsSpelledBy limit n text = (n ≤ limit) × (text ≡ decimal n)
 
-by_zero : (limit n : ℕ) (ds : List ℕ) (b : Bool) → has_leading_zero ds ≡ b → (if b then None else digits_of limit ds) ≡ Some n
-    → (has_leading_zero ds ≡ false) × (digits_of limit ds ≡ Some n)
-by_zero limit n ds true is e = absurd (cc e)
-by_zero limit n ds false is e = (is, e)
-
 pub number_spelled : (limit n : ℕ) (text : List ℕ) → limit < 2 ^ 64 → number_of limit text ≡ Some n → IsSpelledBy limit n text
-number_spelled limit n [] small e = absurd (cc e)
-number_spelled limit n (d ∷ ds) small e =
-    let text = d ∷ ds in
-    let some : 0 < length text = omega arith in
-    let front = by_zero limit n text (has_leading_zero text) refl e in
-    let read = cond_some (list_all is_ascii_digit text && nat_le (decimal_value text) limit) (decimal_value text) n front.1 in
-    let both = and_parts (list_all is_ascii_digit text) (nat_le (decimal_value text) limit) read.0 in
-    let le = leb-true (decimal_value text) limit both.1 in
-    let spelled = decimal-digits_value own text both.0 some (λ zero. alone text front.0 zero some) (omega (arith, le)) in
-    (omega (arith, le, read.1), sym spelled ∙ ap decimal read.1)
-
--- ---- spaces
-
-map_some : {A B : Type 0} (f : A → B) (b : Bool) (x : A) (y : B) → option_map f (if b then Some x else None) ≡ Some y → (b ≡ true) × (f x ≡ y)
-map_some f true x y e = (refl, same_Some (f x) y e)
-map_some f false x y e = absurd (cc e)
+number_spelled limit n text small e = spelled.number_spelled limit text n small e
 
 -- the parts of a text around its first space, joined again
 pub cut_joined : (text : List ℕ) (parts : List ℕ × List ℕ) → cut text ≡ Some parts → text ≡ parts.0 ++ 32 ∷ parts.1
-cut_joined text parts e =
-    let at = position_or_len (λ b. b == 32) text in
-    let found = map_some (λ i. (take i text, drop (i + 1) text)) (nat_lt at (length text)) at parts e in
-    let within = ltb-true at (length text) found.0 in
-    let space = eqb-true (get_or text at 0) 32 (passes_at_first (λ b. b == 32) text 0 within) in
-    sym (take-append-drop at text)
-    ∙ ap (λ rest. take at text ++ rest) (drop_more text at 0 within)
-    ∙ ap (λ b. take at text ++ b ∷ drop (at + 1) text) space
-    ∙ ap (λ p. p.0 ++ 32 ∷ p.1) found.1
+cut_joined text parts e = spelled.cut_joined 32 text parts e
 
 -- a number in front of a space
 abbrev pub IsFront : ℕ → List ℕ → ℕ × List ℕ → Type 0

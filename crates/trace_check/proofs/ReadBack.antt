@@ -9,7 +9,8 @@ use Rattle.std.proofs.lemmas.Fmt.{decimal_nonempty, digits_decimal, digits_value
 use Rattle.std.proofs.lemmas.List.{append-nil}
 use Rattle.std.proofs.lemmas.Str.Parse.{IsDigitsTest, IsNumeralModel, numerals_by_fold}
 use Rattle.trace_check.specs.Lines.{item_step, kind_of, on_item, run_of, seat_and_chunk, seat_and_number, set_run_of, step_of, step_with, u16_limit, u32_limit, u64_limit}
-use Rattle.trace_check.specs.Numbers.{cut, decimal_value, digits_of, first_number, has_leading_zero, number_of}
+use Rattle.trace_check.specs.Numbers.{cut, first_number, number_of}
+use Rattle.unit_types.proofs.SpelledLemmas.{cut_at, decimal_no_byte, has_byte, number_back, take_front}
 use Rattle.trace_check.specs.ReadBack.{FitsStep}
 use Rattle.trace_check.specs.declared.line.ItemKind.{ItemKind}
 use Rattle.trace_check.specs.declared.line.ItemKind.TheVariants as on
@@ -20,93 +21,14 @@ use Rattle.unit_model.specs.declared.runs.Run.{Run}
 use Rattle.unit_model.specs.declared.machine.Step.{Step}
 use Rattle.unit_model.specs.declared.machine.Step.TheVariants.{Draw, Claim, Release, Open, GetItem, SetRun, SetPart, Arm, Push, Pop, Settle, GiveItem, Abandon}
 
--- ---- numbers
-
-pub digit_in : (c : ℕ) → is_ascii_digit c ≡ true → IsInRange 48 57 c
-digit_in c e = search rules
-
-in_digit : (c : ℕ) → IsInRange 48 57 c → is_ascii_digit c ≡ true
-in_digit c h = search rules
-
-digits_test : IsDigitsTest (λ ds. list_all is_ascii_digit ds ≡ true)
-digits_test = record {
-  empty = refl;
-  parts = λ c cs e. let both = and_parts (is_ascii_digit c) (list_all is_ascii_digit cs) e in (digit_in c both.0, both.1);
-  more = λ c cs h e. rw (in_digit c h, e) refl;
-}
-
-fold_from : ℕ → List ℕ → ℕ
-fold_from n digits = fold (λ value digit. value * 10 + (digit - 48)) n digits
-
-pub own : IsNumeralModel (λ ds. list_all is_ascii_digit ds ≡ true) decimal_value
-own = numerals_by_fold (λ ds. list_all is_ascii_digit ds ≡ true) digits_test (λ n digits. fold (λ value digit. value * 10 + (digit - 48)) n digits)
-    (record { empty = λ n. refl; more = λ n c cs h. refl })
-
-no_zero : (ds : List ℕ) → (get_or ds 0 0 ≢ 48) → has_leading_zero ds ≡ false
-no_zero [] ne = refl
-no_zero (d ∷ []) ne = refl
-no_zero (d ∷ e ∷ ds) ne = ne_eqb d 48 ne
-
-plain : (n : ℕ) → n < 2 ^ 64 → has_leading_zero (decimal n) ≡ false
-plain n small =
-    ⊎_elim
-    (λ (z : n ≡ 0). ap (λ m. has_leading_zero (decimal m)) z ∙ ap has_leading_zero (decimal_digit 0 (omega arith)))
-    (λ (ne : n ≢ 0).
-    let first = first_decimal n (omega arith) small in
-    no_zero (decimal n) (omega arith))
-    (cases_eq n 0)
-
-number_one : (limit : ℕ) (ds : List ℕ) → 0 < length ds → number_of limit ds ≡ cond (has_leading_zero ds) None (digits_of limit ds)
-number_one limit [] some = absurd (omega arith)
-number_one limit (d ∷ ds) some = refl
-
-pub number_back : (limit n : ℕ) → n ≤ limit → n < 2 ^ 64 → number_of limit (decimal n) ≡ Some n
-number_back limit n le small =
-    let digits : list_all is_ascii_digit (decimal n) ≡ true = digits_decimal own n small in
-    let value : decimal_value (decimal n) ≡ n = digits_value-decimal own n small in
-    number_one limit (decimal n) (decimal_nonempty n small)
-    ∙ rw (plain n small, digits, value, le-leb n limit le) refl
-
--- ---- spaces
+-- ---- numbers and spaces
 
 abbrev pub has_space : List ℕ → Bool
-has_space text = list_any (λ b. b == 32) text
-
-pub parts_false : (b c : Bool) → (b || c) ≡ false → (b ≡ false) × (c ≡ false)
-parts_false true c e = absurd (cc e)
-parts_false false c e = (refl, e)
-
-space_at : (xs ys : List ℕ) → has_space xs ≡ false → position_or_len (λ b. b == 32) (xs ++ 32 ∷ ys) ≡ length xs
-space_at [] ys none = refl
-space_at (x ∷ xs) ys none =
-    let parts = parts_false (x == 32) (has_space xs) none in
-    rw parts.0 (let e : 1 + position_or_len (λ b. b == 32) (xs ++ 32 ∷ ys) ≡ length (x ∷ xs) = omega (arith, space_at xs ys parts.1) in e)
-
-take_front : (xs : List ℕ) (y : ℕ) (ys : List ℕ) → take (length xs) (xs ++ y ∷ ys) ≡ xs
-take_front [] y ys = refl
-take_front (x ∷ xs) y ys = ap (λ zs. x ∷ zs) (take_front xs y ys)
-
-drop_front : (xs : List ℕ) (y : ℕ) (ys : List ℕ) → drop (suc (length xs)) (xs ++ y ∷ ys) ≡ ys
-drop_front [] y ys = refl
-drop_front (x ∷ xs) y ys = drop_front xs y ys
-
-pub cut_at : (xs ys : List ℕ) → has_space xs ≡ false → cut (xs ++ 32 ∷ ys) ≡ Some (xs, ys)
-cut_at xs ys none =
-    let at = space_at xs ys none in
-    let within : length xs < length (xs ++ 32 ∷ ys) = omega (arith, length-append xs (32 ∷ ys)) in
-    let one : length xs + 1 ≡ suc (length xs) = omega arith in
-    rw (at, lt-ltb (length xs) (length (xs ++ 32 ∷ ys)) within, one, take_front xs 32 ys, drop_front xs 32 ys) refl
-
-digit_no_space : (ds : List ℕ) → list_all is_ascii_digit ds ≡ true → has_space ds ≡ false
-digit_no_space [] e = refl
-digit_no_space (d ∷ ds) e =
-    let both = and_parts (is_ascii_digit d) (list_all is_ascii_digit ds) e in
-    let range = digit_in d both.0 in
-    rw (ne_eqb d 32 (omega (arith, range)), digit_no_space ds both.1) refl
+has_space text = has_byte 32 text
 
 pub first_back : (limit n : ℕ) (rest : List ℕ) → n ≤ limit → n < 2 ^ 64 → first_number limit (decimal n ++ 32 ∷ rest) ≡ Some (n, rest)
 first_back limit n rest le small =
-    rw (cut_at (decimal n) rest (digit_no_space (decimal n) (digits_decimal own n small)), number_back limit n le small) refl
+    rw (cut_at 32 (decimal n) rest (decimal_no_byte 32 n (omega arith) small), number_back limit n le small) refl
 
 pub last_back : (limit n : ℕ) → n ≤ limit → n < 2 ^ 64 → number_of limit (decimal n ++ []) ≡ Some n
 last_back limit n le small = rw (append-nil (decimal n)) (number_back limit n le small)
@@ -116,7 +38,7 @@ last_back limit n le small = rw (append-nil (decimal n)) (number_back limit n le
 step_by : (name rest : List ℕ) (kind : Kind) (step : Step) → has_space name ≡ false → kind_of name ≡ Some kind → step_with kind rest ≡ Some step
     → step_of (name ++ 32 ∷ rest) ≡ Some step
 unfolding step_of
-step_by name rest kind step none is numbers = rw (cut_at name rest none, is, numbers) refl
+step_by name rest kind step none is numbers = rw (cut_at 32 name rest none, is, numbers) refl
 
 pair_back : (limit seat n : ℕ) → seat < 2 ^ 32 → n ≤ limit → n < 2 ^ 64
     → seat_and_number limit (decimal seat ++ 32 ∷ (decimal n ++ [])) ≡ Some (seat, n)

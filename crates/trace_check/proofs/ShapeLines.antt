@@ -5,7 +5,8 @@ use Rattle.std.proofs.lemmas.Bool.{and_parts, leb-true}
 use Rattle.std.proofs.lemmas.Option.{option_and_then_some, same_Some}
 use Rattle.std.proofs.lemmas.Slice.Eq.{bytes_eq-Decides}
 use Rattle.trace_check.proofs.OneSpelling.{cut_joined, first_spelled, last_one, number_spelled, one_more}
-use Rattle.trace_check.proofs.ReadBack.{cut_at, first_back, last_back, same_front, text_of}
+use Rattle.trace_check.proofs.ReadBack.{first_back, last_back, same_front, text_of}
+use Rattle.unit_types.proofs.SpelledLemmas.{cut_at}
 use Rattle.trace_check.specs.Lines.{rest_of_shape, shape_of, u32_limit, u64_limit}
 use Rattle.trace_check.specs.Numbers.{cut, first_number, number_of}
 use Rattle.trace_check.specs.Traces.{shape_line, shape_numbers}
@@ -121,7 +122,7 @@ shape_back shape text valid e =
     let one = decimal shape.items ++ 32 ∷ two in
     let read : shape_of (codes "shape" ++ 32 ∷ one) ≡ Some shape =
     rw (
-      cut_at (codes "shape") one refl,
+      cut_at 32 (codes "shape") one refl,
       first_back u32_limit shape.items two (omega (arith, fits.0)) (omega (arith, fits.0)),
       first_back u32_limit shape.back_items three (omega (arith, fits.1)) (omega (arith, fits.1)),
     ) (rest_back shape fits) in

@@ -78,7 +78,8 @@ impl Checker {
 
     /// Whether a line of the bytes so far is broken or its step not enabled, so that no later byte changes the verdict.
     pub fn decided(&self) -> bool
-        ensures { (bytes : List ℕ) → HasRead self.now bytes → result ≡ is_decided (standing_of bytes) }
+        ensures { (bytes : List ℕ) → HasRead self.now bytes
+            → result ≡ is_decided (standing_of bytes) }
     {
         self.verdict.is_some()
     }

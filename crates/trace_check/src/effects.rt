@@ -21,7 +21,8 @@ fn forget(owners: &mut BTreeMap<u64, Owner>, number: u64)
 
 fn keep(owners: &mut BTreeMap<u64, Owner>, number: u64, owner: Owner) -> Result<(), AllocError>
     ensures here { OnOk result (owner_in owners.new number ≡ owner) }
-    ensures apart { OnOk result ((i : ℕ) → i ≢ number → owner_in owners.new i ≡ owner_in owners.old i) }
+    ensures apart { OnOk result ((i : ℕ) → i ≢ number
+        → owner_in owners.new i ≡ owner_in owners.old i) }
 {
     match owners.insert(number, owner) {
         Ok(_) => Ok(()),

@@ -61,7 +61,8 @@ impl Frame {
 
     #[tactic(auto, using(crate::proofs::Listed::listed_length))]
     pub(crate) fn chunk_count(&self) -> u64
-        ensures value { result ≡ segment_chunks * (self.now.shape.out_segments + self.now.shape.back_segments) }
+        ensures value { result
+            ≡ segment_chunks * (self.now.shape.out_segments + self.now.shape.back_segments) }
         ensures owners { length self.now.owners ≡ result }
     {
         SEGMENT_CHUNKS * (self.shape.out_segments as u64 + self.shape.back_segments as u64)
@@ -100,7 +101,8 @@ impl Frame {
     }
 
     pub(crate) fn free_place(&self, queue: u32) -> u64
-        ensures { result ≡ first_place (queue_of self.now queue).free (queue_of self.now queue).next_free }
+        ensures { result
+            ≡ first_place (queue_of self.now queue).free (queue_of self.now queue).next_free }
     {
         match self.queue(queue) {
             Some(queue) => queue.free_place(),
@@ -109,7 +111,8 @@ impl Frame {
     }
 
     pub(crate) fn line_place(&self, queue: u32) -> u64
-        ensures { result ≡ first_place (queue_of self.now queue).line (queue_of self.now queue).next_line }
+        ensures { result
+            ≡ first_place (queue_of self.now queue).line (queue_of self.now queue).next_line }
     {
         match self.queue(queue) {
             Some(queue) => queue.line_place(),

@@ -63,7 +63,8 @@ impl Hand {
         requires { count_at hands.old self + 1 < 2 ^ 64 }
         ensures ok { OnOk result ((hand : Hand) → count_at hands.new hand
             ≡ count_at hands.old hand + one_if (same_hand hand self)) }
-        ensures err { OnErr result ((hand : Hand) → count_at hands.new hand ≡ count_at hands.old hand) }
+        ensures err { OnErr result ((hand : Hand)
+            → count_at hands.new hand ≡ count_at hands.old hand) }
     {
         let count = self.count(hands);
         match hands.insert(self, count + 1) {
@@ -103,8 +104,10 @@ impl Hand {
         requires { (to.code ≢ 0) → count_at hands.old to + 1 < 2 ^ 64 }
         ensures ok { OnOk result ((hand : Hand) → hand.code ≢ 0
             → count_at hands.new hand
-            ≡ (count_at hands.old hand + one_if (same_hand hand to)) - one_if (same_hand hand self)) }
-        ensures err { OnErr result ((hand : Hand) → count_at hands.new hand ≡ count_at hands.old hand) }
+            ≡ (count_at hands.old hand + one_if (same_hand hand to))
+            - one_if (same_hand hand self)) }
+        ensures err { OnErr result ((hand : Hand)
+            → count_at hands.new hand ≡ count_at hands.old hand) }
     {
         if to.code != 0 {
             to.add(hands)?;

@@ -121,7 +121,8 @@ impl Lane {
 
     /// Fails for want of memory alone.
     pub(crate) fn set_item(&mut self, item: u32, new: Item) -> Result<(), AllocError>
-        ensures { OnOk result (self.new ≡ record self.old { items = slice_set self.old.items item new }) }
+        ensures { OnOk result (self.new
+            ≡ record self.old { items = slice_set self.old.items item new }) }
     {
         self.items.set(item, new)
     }

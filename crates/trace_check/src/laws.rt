@@ -21,9 +21,11 @@ pub fn lines_are_read_back()
 
 /// The lines of a shape and of steps, one after another, say this shape and these steps; and no other bytes do.
 pub fn traces_are_read_back()
-    ensures read { (shape : Shape) (steps : List Step) (bytes : List ℕ) → IsTraceOf shape steps bytes
+    ensures read { (shape : Shape) (steps : List Step) (bytes : List ℕ)
+        → IsTraceOf shape steps bytes
         → Say (lines_of bytes) shape steps }
-    ensures spelled { (shape : Shape) (steps : List Step) (bytes : List ℕ) → Say (lines_of bytes) shape steps
+    ensures spelled { (shape : Shape) (steps : List Step) (bytes : List ℕ)
+        → Say (lines_of bytes) shape steps
         → IsTraceOf shape steps bytes }
 {}
 
@@ -33,7 +35,8 @@ pub fn legal_where_steps_run()
     ensures legal { (bytes : List ℕ) → IsLegal (verdict_of bytes)
         → (shape : Shape) × (steps : List Step) × Say (lines_of bytes) shape steps
         × AllEnabled (opened_core shape) steps }
-    ensures enabled { (bytes : List ℕ) (shape : Shape) (steps : List Step) → Say (lines_of bytes) shape steps
+    ensures enabled { (bytes : List ℕ) (shape : Shape) (steps : List Step)
+        → Say (lines_of bytes) shape steps
         → AllEnabled (opened_core shape) steps
         → verdict_of bytes
         ≡ legal (length steps) (tally_of (after_steps (opened_core shape) steps)) }

@@ -3,8 +3,9 @@ ghost use Rattle.std.specs.Prelude.{◌≡◌, ◌≤◌, ◌^◌, option_map, I
 ghost use Rattle.trace_check.specs.Lines.{item_step, kind_of, on_item, rest_of_shape, run_of, seat_and_chunk, seat_and_number, set_run_of, shape_of, step_of, step_with, u32_limit};
 ghost use Rattle.trace_check.specs.Numbers.{first_number, number_of};
 
-use crate::number::{cut, first_number, number_of};
+use crate::number::first_number;
 use unit_model::{Run, Shape, Step};
+use unit_types::{cut, plain_decimal};
 
 const U16_LIMIT: u64 = u16::MAX as u64;
 
@@ -81,7 +82,8 @@ fn kind_of(name: &[u8]) -> Option<Kind>
 
 // A number of 32 bits in front of the first space, and the text behind the space.
 fn first_u32(text: &[u8]) -> Option<(u32, &[u8])>
-    ensures { option_map (λ parts. (parts.0, parts.1.now)) result ≡ first_number u32_limit text.now }
+    ensures { option_map (λ parts. (parts.0, parts.1.now)) result
+        ≡ first_number u32_limit text.now }
 {
     let (number, rest) = first_number(text, U32_LIMIT)?;
     Some((number as u32, rest))
@@ -90,7 +92,7 @@ fn first_u32(text: &[u8]) -> Option<(u32, &[u8])>
 fn u32_of(text: &[u8]) -> Option<u32>
     ensures { result ≡ number_of u32_limit text.now }
 {
-    Some(number_of(text, U32_LIMIT)? as u32)
+    Some(plain_decimal(text, U32_LIMIT)? as u32)
 }
 
 // `SEAT NUMBER`
@@ -100,7 +102,7 @@ fn seat_and_number(text: &[u8], limit: u64) -> Option<(u32, u64)>
     ensures small { IfSome result (λ n. n.1 ≤ limit) }
 {
     let (seat, rest) = first_u32(text)?;
-    Some((seat, number_of(rest, limit)?))
+    Some((seat, plain_decimal(rest, limit)?))
 }
 
 // `SEAT SEGMENT CHUNK`
@@ -121,7 +123,7 @@ fn on_item(text: &[u8]) -> Option<ItemNumbers>
     let (seat, rest) = first_u32(text)?;
     let (queue, rest) = first_u32(rest)?;
     let (item, rest) = first_u32(rest)?;
-    let number = number_of(rest, u64::MAX)?;
+    let number = plain_decimal(rest, u64::MAX)?;
     Some(ItemNumbers {
         seat,
         queue,
@@ -265,7 +267,7 @@ fn step_with(kind: Kind, numbers: &[u8]) -> Option<Step>
 pub(crate) fn step_of(line: &[u8]) -> Option<Step>
     ensures { result ≡ step_of line.now }
 {
-    let (name, numbers) = cut(line)?;
+    let (name, numbers) = cut(line, b' ')?;
     step_with(kind_of(name)?, numbers)
 }
 
@@ -278,7 +280,7 @@ fn rest_of_shape(items: u32, back_items: u32, text: &[u8]) -> Option<Shape>
     let (back_segments, rest) = first_u32(rest)?;
     let (engines, rest) = first_u32(rest)?;
     let (workers, rest) = first_u32(rest)?;
-    let start = number_of(rest, u64::MAX)?;
+    let start = plain_decimal(rest, u64::MAX)?;
     Some(Shape {
         items,
         back_items,
@@ -295,7 +297,7 @@ fn rest_of_shape(items: u32, back_items: u32, text: &[u8]) -> Option<Shape>
 pub(crate) fn shape_of(line: &[u8]) -> Option<Shape>
     ensures { result ≡ shape_of line.now }
 {
-    let (name, numbers) = cut(line)?;
+    let (name, numbers) = cut(line, b' ')?;
     if name != b"shape".as_slice() {
         return None;
     }

@@ -48,7 +48,8 @@ impl Machine {
     }
 
     fn may_post(&self, seat: u32, queue: u32, item: u32, stream: u64) -> Option<Unmet>
-        ensures { result ≡ may_post_known self.now.frame (get nat_cmp self.now.streams stream) seat queue item }
+        ensures { result
+            ≡ may_post_known self.now.frame (get nat_cmp self.now.streams stream) seat queue item }
     {
         let known = self.stream(stream);
         let is_new = drawn_by(seat, &known) && !posted_by(seat, &known);
@@ -58,7 +59,9 @@ impl Machine {
 
     fn may_send(&self, seat: u32, queue: u32, item: u32, stream: u64) -> Option<Unmet>
         requires { 0 < queue }
-        ensures { result ≡ may_send_known self.now.frame (get nat_cmp self.now.streams stream) seat queue item stream }
+        ensures { result
+            ≡ may_send_known self.now.frame (get nat_cmp self.now.streams stream) seat queue item
+            stream }
     {
         let known = self.stream(stream);
         let asked = taken_by(seat, &known) && posted_by(queue - 1, &known);
@@ -69,7 +72,9 @@ impl Machine {
     }
 
     fn arm_unmet(&self, seat: u32, queue: u32, item: u32, stream: u64) -> Option<Unmet>
-        ensures { result ≡ may_arm_known self.now.frame (get nat_cmp self.now.streams stream) seat queue item stream }
+        ensures { result
+            ≡ may_arm_known self.now.frame (get nat_cmp self.now.streams stream) seat queue item
+            stream }
     {
         if queue == 0 {
             self.may_post(seat, queue, item, stream)
@@ -79,7 +84,8 @@ impl Machine {
     }
 
     fn may_win(&self, seat: u32, queue: u32, item: u32, stream: u64) -> bool
-        ensures { result ≡ may_win_known self.now.frame (get nat_cmp self.now.streams stream) seat queue item }
+        ensures { result
+            ≡ may_win_known self.now.frame (get nat_cmp self.now.streams stream) seat queue item }
     {
         let is_engine = self.frame.role_of(seat).is_engine();
         match (queue, is_engine) {
@@ -91,7 +97,9 @@ impl Machine {
     }
 
     fn settle_unmet(&self, seat: u32, queue: u32, item: u32, stream: u64) -> Option<Unmet>
-        ensures { result ≡ may_settle_known self.now.frame (get nat_cmp self.now.streams stream) seat queue item stream }
+        ensures { result
+            ≡ may_settle_known self.now.frame (get nat_cmp self.now.streams stream) seat queue item
+            stream }
     {
         let may_win = self.may_win(seat, queue, item, stream);
         unless(stream != 0 && may_win, 11, 1, 0)

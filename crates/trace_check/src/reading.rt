@@ -55,7 +55,12 @@ impl Reading {
     fn pass(&mut self, steps: u64)
         requires lines { self.old.lines + 1 < 2 ^ 64 }
         requires place { self.old.place + (length self.old.text.items + 1) < 2 ^ 64 }
-        ensures counts { self.new ≡ record self.old { steps = steps; lines = self.old.lines + 1; place = self.old.place + (length self.old.text.items + 1); text = self.new.text } }
+        ensures counts { self.new ≡ record self.old {
+          steps = steps;
+          lines = self.old.lines + 1;
+          place = self.old.place + (length self.old.text.items + 1);
+          text = self.new.text;
+        } }
         ensures text { self.new.text.items ≡ [] }
     {
         self.steps = steps;
@@ -71,7 +76,8 @@ impl Reading {
         requires steps { self.old.steps + 1 < 2 ^ 64 }
         requires lines { self.old.lines + 1 < 2 ^ 64 }
         requires place { self.old.place + (length self.old.text.items + 1) < 2 ^ 64 }
-        ensures judges { IfOk result (λ verdict. (at : Passed) (text : List ℕ) → Follows at text self.old
+        ensures judges { IfOk result (λ verdict. (at : Passed) (text : List ℕ)
+            → Follows at text self.old
             → Judges (on_step at text (Some step.now)) verdict self.new) }
         ensures counted { CountsOn self.old self.new }
     {
@@ -93,7 +99,8 @@ impl Reading {
     fn take_shape(&mut self, alloc: Global, shape: &Shape) -> Result<Option<Verdict>, AllocError>
         requires lines { self.old.lines + 1 < 2 ^ 64 }
         requires place { self.old.place + (length self.old.text.items + 1) < 2 ^ 64 }
-        ensures judges { IfOk result (λ verdict. (at : Passed) (text : List ℕ) → Follows at text self.old
+        ensures judges { IfOk result (λ verdict. (at : Passed) (text : List ℕ)
+            → Follows at text self.old
             → Judges (on_shape at text (Some shape.now)) verdict self.new) }
         ensures counted { CountsOn self.old self.new }
     {
@@ -110,7 +117,8 @@ impl Reading {
         requires steps { self.old.steps + 1 < 2 ^ 64 }
         requires lines { self.old.lines + 1 < 2 ^ 64 }
         requires place { self.old.place + (length self.old.text.items + 1) < 2 ^ 64 }
-        ensures judges { IfOk result (λ verdict. (at : Passed) (text : List ℕ) → Follows at text self.old
+        ensures judges { IfOk result (λ verdict. (at : Passed) (text : List ℕ)
+            → Follows at text self.old
             → Judges (on_line at text) verdict self.new) }
         ensures counted { CountsOn self.old self.new }
     {
@@ -131,7 +139,8 @@ impl Reading {
         requires steps { self.old.steps + 1 < 2 ^ 64 }
         requires lines { self.old.lines + 1 < 2 ^ 64 }
         requires place { self.old.place + (length self.old.text.items + 1) < 2 ^ 64 }
-        ensures stands { IfOk result (λ verdict. (at : Passed) (text : List ℕ) → Follows at text self.old
+        ensures stands { IfOk result (λ verdict. (at : Passed) (text : List ℕ)
+            → Follows at text self.old
             → Stands (after_byte (going at text) byte) verdict self.new) }
         ensures counted { CountsOn self.old self.new }
     {
@@ -162,10 +171,13 @@ impl Reading {
         alloc: Global,
         piece: &[u8],
     ) -> Result<Option<Verdict>, AllocError>
-        requires counted { (bytes : ℕ) × IsCounted self.old bytes × (bytes + length piece.now < 2 ^ 64) }
-        ensures stands { IfOk result (λ verdict. (at : Passed) (text : List ℕ) → Follows at text self.old
+        requires counted { (bytes : ℕ) × IsCounted self.old bytes
+            × (bytes + length piece.now < 2 ^ 64) }
+        ensures stands { IfOk result (λ verdict. (at : Passed) (text : List ℕ)
+            → Follows at text self.old
             → Stands (after_bytes (going at text) piece.now) verdict self.new) }
-        ensures counted { (bytes : ℕ) → IsCounted self.old bytes → IsCounted self.new (bytes + length piece.now) }
+        ensures counted { (bytes : ℕ) → IsCounted self.old bytes
+            → IsCounted self.new (bytes + length piece.now) }
     {
         for byte in piece {
             let verdict = self.take_byte(alloc, *byte)?;
@@ -209,10 +221,13 @@ impl Reading {
         verdict: Option<Verdict>,
         piece: &[u8],
     ) -> Result<Option<Verdict>, AllocError>
-        requires counted { (bytes : ℕ) × IsCounted self.old bytes × (bytes + length piece.now < 2 ^ 64) }
-        ensures stands { IfOk result (λ after. (bytes : List ℕ) → Stands (standing_of bytes) verdict self.old
+        requires counted { (bytes : ℕ) × IsCounted self.old bytes
+            × (bytes + length piece.now < 2 ^ 64) }
+        ensures stands { IfOk result (λ after. (bytes : List ℕ)
+            → Stands (standing_of bytes) verdict self.old
             → Stands (standing_of (bytes ++ piece.now)) after self.new) }
-        ensures counted { (bytes : ℕ) → IsCounted self.old bytes → IsCounted self.new (bytes + length piece.now) }
+        ensures counted { (bytes : ℕ) → IsCounted self.old bytes
+            → IsCounted self.new (bytes + length piece.now) }
     {
         if verdict.is_some() {
             return Ok(verdict);

@@ -159,9 +159,11 @@ impl Machine {
     #[tactic(auto, unfolding(unit_model::specs::Effects::after_step, unit_model::specs::Effects::with_note, crate::specs::Streams::stream_after))]
     fn draw(&mut self, seat: u32, stream: u64) -> Result<(), AllocError>
         requires { stream < 2 ^ 62 }
-        ensures frame { OnOk result (self.new.frame ≡ frame_after self.old.frame (Step.Draw seat stream)) }
+        ensures frame { OnOk result (self.new.frame
+            ≡ frame_after self.old.frame (Step.Draw seat stream)) }
         ensures streams { OnOk result ((n : ℕ) → get nat_cmp self.new.streams n
-            ≡ stream_after self.old.frame (get nat_cmp self.old.streams) (Step.Draw seat stream) n) }
+            ≡ stream_after self.old.frame (get nat_cmp self.old.streams) (Step.Draw seat stream)
+            n) }
     {
         put(&mut self.streams, stream, Stream::drawn(seat))?;
         self.frame.set_next(stream + 1);
@@ -173,7 +175,8 @@ impl Machine {
         ensures frame { OnOk result (self.new.frame
             ≡ frame_after self.old.frame (Step.Arm seat queue item stream)) }
         ensures streams { OnOk result ((n : ℕ) → get nat_cmp self.new.streams n
-            ≡ stream_after self.old.frame (get nat_cmp self.old.streams) (Step.Arm seat queue item stream) n) }
+            ≡ stream_after self.old.frame (get nat_cmp self.old.streams)
+            (Step.Arm seat queue item stream) n) }
     {
         let old = self.frame.item_of(queue, item);
         let known = armed(self.stream(stream), queue, &old);
@@ -194,7 +197,8 @@ impl Machine {
         ensures frame { OnOk result (self.new.frame
             ≡ frame_after self.old.frame (Step.Settle seat queue item stream)) }
         ensures streams { OnOk result ((n : ℕ) → get nat_cmp self.new.streams n
-            ≡ stream_after self.old.frame (get nat_cmp self.old.streams) (Step.Settle seat queue item stream) n) }
+            ≡ stream_after self.old.frame (get nat_cmp self.old.streams)
+            (Step.Settle seat queue item stream) n) }
     {
         let old = self.frame.item_of(queue, item);
         let is_engine = self.frame.role_of(seat).is_engine();
@@ -207,9 +211,11 @@ impl Machine {
 
     #[tactic(auto, unfolding(unit_model::specs::Effects::after_step, unit_model::specs::Effects::with_note, crate::specs::Streams::stream_after))]
     fn abandon(&mut self, seat: u32, stream: u64) -> Result<(), AllocError>
-        ensures frame { OnOk result (self.new.frame ≡ frame_after self.old.frame (Step.Abandon seat stream)) }
+        ensures frame { OnOk result (self.new.frame
+            ≡ frame_after self.old.frame (Step.Abandon seat stream)) }
         ensures streams { OnOk result ((n : ℕ) → get nat_cmp self.new.streams n
-            ≡ stream_after self.old.frame (get nat_cmp self.old.streams) (Step.Abandon seat stream) n) }
+            ≡ stream_after self.old.frame (get nat_cmp self.old.streams) (Step.Abandon seat stream)
+            n) }
     {
         let known = given_up(self.stream(stream));
         put_changed(&mut self.streams, stream, known)?;

@@ -8,10 +8,10 @@ use Rattle.std.proofs.lemmas.List.Elements.{All-cons, All-nil}
 use Rattle.unit_types.specs.Record.{number, length_prefixed, field_bytes, field_list_bytes, reply_record}
 use Rattle.unit_types.specs.Token.{is_tchar, IsToken, is_value_byte, IsFieldValue}
 use Rattle.unit_types.specs.Handlers.{IsNameList, IsReply, IsWritable}
-use Rattle.unit_types.specs.Limits.{IsShortName}
+use Rattle.unit_types.specs.Limits.{IsShortName, record_limit}
 use Rattle.unit_types.specs.declared.message.Reply.{Reply}
 use Rattle.unit_types.specs.declared.message.Request.{Request}
-use Rattle.unit_program.specs.Replies.{names_known, content_reply, hello_reply, content_limit, too_long_reply, within_limit, count_reply, echo_reply, unknown_reply, program_reply}
+use Rattle.unit_program.specs.Replies.{names_known, content_reply, hello_reply, too_long_reply, where_recorded, count_reply, echo_reply, unknown_reply, program_reply}
 
 pub names_fit : IsNameList names_known
 unfolding IsStrictlySortedBy
@@ -32,20 +32,13 @@ plain = AllPass-from_list_all is_value_byte (codes "text/plain") refl
 stream : IsFieldValue (codes "application/octet-stream")
 stream = AllPass-from_list_all is_value_byte (codes "application/octet-stream") refl
 
-plain_fits : (body : List ℕ) → length body ≤ content_limit → IsReply (content_reply (codes "text/plain") body)
+-- the greeting has a record
+hello_fits : IsReply hello_reply
 unfolding reply_record field_list_bytes field_bytes length_prefixed number
-plain_fits body low = record {
+hello_fits = record {
   final_status = (lit≤ tt, lit≤ tt);
   writable = All-cons IsWritable (record { name = codes "Content-Type"; value = codes "text/plain" }) [] (token, plain) (All-nil IsWritable);
-  short = omega (arith, low);
-}
-
-stream_fits : (body : List ℕ) → length body ≤ content_limit → IsReply (content_reply (codes "application/octet-stream") body)
-unfolding reply_record field_list_bytes field_bytes length_prefixed number
-stream_fits body low = record {
-  final_status = (lit≤ tt, lit≤ tt);
-  writable = All-cons IsWritable (record { name = codes "Content-Type"; value = codes "application/octet-stream" }) [] (token, stream) (All-nil IsWritable);
-  short = omega (arith, low);
+  short = lit≤ tt;
 }
 
 -- a reply without fields and content
@@ -57,24 +50,24 @@ bare_fits status low high = record {
   short = lit≤ tt;
 }
 
-within_fits : (body : List ℕ) (reply : Reply) → (length body ≤ content_limit → IsReply reply) → IsReply (within_limit body reply)
-within_fits body reply fits = by_test (nat_le (length body) content_limit) refl
+-- a content of that type, where its reply has a record
+recorded_fits : (type body : List ℕ) → IsFieldValue type → IsReply (where_recorded (content_reply type body))
+recorded_fits type body value = by_test (nat_le (length (reply_record (content_reply type body))) record_limit) refl
   where
-    by_test : (t : Bool) → nat_le (length body) content_limit ≡ t → IsReply (if t then reply else too_long_reply)
-    by_test true is = fits (leb-true (length body) content_limit is)
+    by_test : (t : Bool) → nat_le (length (reply_record (content_reply type body))) record_limit ≡ t → IsReply (if t then content_reply type body else too_long_reply)
+    by_test true is = record {
+      final_status = (lit≤ tt, lit≤ tt);
+      writable = All-cons IsWritable (record { name = codes "Content-Type"; value = type }) [] (token, value) (All-nil IsWritable);
+      short = leb-true (length (reply_record (content_reply type body))) record_limit is;
+    }
     by_test false is = bare_fits 413 (lit≤ tt) (lit≤ tt)
-
-count_fits : (body : List ℕ) → length body ≤ content_limit → IsReply (count_reply body)
-count_fits body low =
-    let few = length-decimal-le 8 (length body) (lit< tt) (omega (arith, low)) (omega (arith, low)) in
-    plain_fits (decimal (length body) ++ 10 ∷ []) (omega (arith, few, length-append (decimal (length body)) (10 ∷ [])))
 
 pub replies_fit : (name : List ℕ) (request : Request) → IsReply (program_reply name request)
 replies_fit name request = by_name (bytes_eq name (codes "count")) (bytes_eq name (codes "echo")) (bytes_eq name (codes "hello"))
   where
     by_name : (count echo hello : Bool)
-        → IsReply (if count then within_limit request.body (count_reply request.body) else if echo then within_limit request.body (echo_reply request.body) else if hello then hello_reply else unknown_reply)
-    by_name true echo hello = within_fits request.body (count_reply request.body) (count_fits request.body)
-    by_name false true hello = within_fits request.body (echo_reply request.body) (stream_fits request.body)
-    by_name false false true = plain_fits _ (lit≤ tt)
+        → IsReply (if count then where_recorded (count_reply request.body) else if echo then where_recorded (echo_reply request.body) else if hello then hello_reply else unknown_reply)
+    by_name true echo hello = recorded_fits (codes "text/plain") (decimal (length request.body) ++ 10 ∷ []) plain
+    by_name false true hello = recorded_fits (codes "application/octet-stream") request.body stream
+    by_name false false true = hello_fits
     by_name false false false = bare_fits 404 (lit≤ tt) (lit≤ tt)

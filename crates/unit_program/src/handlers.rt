@@ -1,13 +1,13 @@
 //! The handlers of the program.
 ghost use Rattle.std.specs.Prelude.{◌≡◌, [], IfOk};
-ghost use Rattle.unit_program.specs.Replies.{content_reply, hello_reply, within_limit, count_reply, echo_reply, names_known};
+ghost use Rattle.unit_program.specs.Replies.{content_reply, hello_reply, where_recorded, count_reply, echo_reply, names_known};
 
 use itoa::Buffer;
 use std::alloc::{AllocError, Global};
-use unit_types::{Bytes, Field, Fields, Handlers, Reply, Request};
+use unit_types::{Bytes, Field, Fields, Handlers, RECORD_LIMIT, Reply, Request};
 
-/// The largest content of a request in any configuration, in bytes.
-const CONTENT_LIMIT: usize = 10_000_000;
+/// Bytes of the record of an `echo` reply beside its content.
+const ECHO_RECORD: usize = 54;
 
 /// The handlers that the program brings along: `count`, which writes how many bytes the content has; `echo`, which gives it
 /// back; and `hello`, which greets.
@@ -55,12 +55,10 @@ fn hello(alloc: Global) -> Result<Reply, AllocError>
 }
 
 // The reply of `count` to a content.
+#[tactic(auto, using(crate::proofs::Recorded::count_recorded))]
 fn count(alloc: Global, content: &[u8]) -> Result<Reply, AllocError>
-    ensures { IfOk result (λ reply. reply ≡ within_limit content.now (count_reply content.now)) }
+    ensures { IfOk result (λ reply. reply ≡ where_recorded (count_reply content.now)) }
 {
-    if content.len() > CONTENT_LIMIT {
-        return Ok(bare_reply(alloc, 413));
-    }
     let mut digits = Buffer::new();
     let mut body = Bytes::copy_of(alloc, digits.format(content.len()).as_bytes())?;
     body.append(b"\n")?;
@@ -68,10 +66,11 @@ fn count(alloc: Global, content: &[u8]) -> Result<Reply, AllocError>
 }
 
 // The reply of `echo` to a content.
+#[tactic(auto, using(crate::proofs::Recorded::echo_recorded, crate::proofs::Recorded::echo_refused))]
 fn echo(alloc: Global, content: &[u8]) -> Result<Reply, AllocError>
-    ensures { IfOk result (λ reply. reply ≡ within_limit content.now (echo_reply content.now)) }
+    ensures { IfOk result (λ reply. reply ≡ where_recorded (echo_reply content.now)) }
 {
-    if content.len() > CONTENT_LIMIT {
+    if content.len() > RECORD_LIMIT - ECHO_RECORD {
         return Ok(bare_reply(alloc, 413));
     }
     let body = Bytes::copy_of(alloc, content)?;

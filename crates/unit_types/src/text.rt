@@ -8,7 +8,8 @@ use std::alloc::{AllocError, Global};
 
 /// The text in front of the first separator and the text behind it, where there is a separator.
 pub fn cut(text: &[u8], separator: u8) -> Option<(&[u8], &[u8])>
-    ensures { option_map (λ parts. (parts.0.now, parts.1.now)) result ≡ spec.cut separator text.now }
+    ensures { option_map (λ parts. (parts.0.now, parts.1.now)) result
+        ≡ spec.cut separator text.now }
 {
     let at = text.iter().position(|b| *b == separator)?;
     Some((&text[..at], &text[at + 1..]))
