@@ -1,5 +1,5 @@
 -- Bytes that are written in several parts.
-use Rattle.std.proofs.Common.{◌≡◌, ◌∙◌, ◌++◌, ℕ, List, Option, Some, Result, Ok, Err, OnOk, ap, sym}
+use Rattle.std.proofs.Common.{◌∙◌, ◌++◌, ℕ, List, Option, Some, Result, Ok, Err, OnOk, ap, sym}
 use Rattle.std.proofs.lemmas.List.{append_assoc}
 use Rattle.unit_io.specs.Told.{Adds, AddsFront}
 

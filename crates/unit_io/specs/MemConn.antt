@@ -58,7 +58,8 @@ IsSomeEvent End = ⊤
 
 -- what is left of a script: what is left of a `Give` that is under way, and the events behind it
 abbrev pub left_events : List ℕ → ℕ → List Event → List Event
-left_events current at rest = if nat_lt at (length current) then Give (drop at current) ∷ rest else rest
+left_events current at rest =
+    if nat_lt at (length current) then Give (drop at current) ∷ rest else rest
 
 abbrev pub events_of : Script → List Event
 events_of script = left_events script.current script.at script.rest.items
@@ -114,30 +115,54 @@ abbrev pub read_of : List Event → ConnState → ℕ → Answered ConnRead
 read_of [] c room = record { answer = read.End; after = record c { events = []; ended = true } }
 read_of (Give bytes ∷ rest) c room =
     let n = min room (length bytes) in
-    record { answer = read.Got n; after = record c { events = after_bytes bytes rest n; came = c.came ++ take n bytes } }
-read_of (NotYet ∷ rest) c room = record { answer = read.NotYet; after = record c { events = rest; waits = one_more c.waits } }
-read_of (Fail ∷ rest) c room = record { answer = read.Failed; after = record c { events = rest; faults = one_more c.faults } }
-read_of (End ∷ rest) c room = record { answer = read.End; after = record c { events = []; ended = true } }
+    record {
+      answer = read.Got n;
+      after = record c { events = after_bytes bytes rest n; came = c.came ++ take n bytes };
+    }
+read_of (NotYet ∷ rest) c room = record {
+  answer = read.NotYet;
+  after = record c { events = rest; waits = one_more c.waits };
+}
+read_of (Fail ∷ rest) c room = record {
+  answer = read.Failed;
+  after = record c { events = rest; faults = one_more c.faults };
+}
+read_of (End ∷ rest) c room = record {
+  answer = read.End;
+  after = record c { events = []; ended = true };
+}
+
+-- the connection after a call that found no memory
+abbrev pub unkept_by : ConnState → ConnState
+unkept_by c = record c { faults = one_more c.faults; unkept = one_more c.unkept }
 
 -- what a read answers and leaves; beside what its script says it may fail where bytes come next, for want of memory
 abbrev pub IsConnRead : ConnState → ℕ → ConnRead → ConnState → Type 0
 IsConnRead c room answer after =
     ((answer ≡ (read_of c.events c room).answer) × (after ≡ (read_of c.events c room).after))
-    ⊎ ((gives_next c.events ≡ true) × (answer ≡ read.Failed) × (after ≡ record c { faults = one_more c.faults; unkept = one_more c.unkept }))
+    ⊎ ((gives_next c.events ≡ true) × (answer ≡ read.Failed) × (after ≡ unkept_by c))
 
 -- ---- writes
 
+-- the connection with one write more
+abbrev pub written_by : ConnState → ConnState
+written_by c = record c { writes = one_more c.writes }
+
 -- what a write answers and leaves, of at most 64 bytes; beside the writes that are told to, those alone fail that find no
 -- memory
-pub record IsConnWrite (c : ConnState) (bytes : List ℕ) (answer : ConnWrite) (after : ConnState) : Type 0 where
-  pub told : Contains c.fail_writes c.writes → (answer ≡ write.Failed) × (after ≡ record c { writes = one_more c.writes; faults = one_more c.faults })
+pub record IsConnWrite
+    (c : ConnState) (bytes : List ℕ) (answer : ConnWrite) (after : ConnState) : Type 0 where
+  pub told : Contains c.fail_writes c.writes
+      → (answer ≡ write.Failed) × (after ≡ record (written_by c) { faults = one_more c.faults })
   pub untold : (Contains c.fail_writes c.writes → ⊥)
-      → ((answer ≡ write.Wrote (min 64 (length bytes))) × (after ≡ record c { writes = one_more c.writes; went = c.went ++ take (min 64 (length bytes)) bytes }))
-      ⊎ ((answer ≡ write.Failed) × (after ≡ record c { writes = one_more c.writes; faults = one_more c.faults; unkept = one_more c.unkept }))
+      → ((answer ≡ write.Wrote (min 64 (length bytes)))
+      × (after ≡ record (written_by c) { went = c.went ++ take (min 64 (length bytes)) bytes }))
+      ⊎ ((answer ≡ write.Failed) × (after ≡ unkept_by (written_by c)))
 
 -- ---- checks
 
 -- what a look answers and leaves: it fails where a fault comes next
 pub record IsConnCheck (c : ConnState) (answer : ConnCheck) (after : ConnState) : Type 0 where
-  pub fault : fails_next c.events ≡ true → (answer ≡ check.Failed) × (after ≡ record c { faults = one_more c.faults })
+  pub fault : fails_next c.events ≡ true
+      → (answer ≡ check.Failed) × (after ≡ record c { faults = one_more c.faults })
   pub none : fails_next c.events ≡ false → (answer ≡ check.Alive) × (after ≡ c)

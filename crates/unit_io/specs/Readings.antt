@@ -14,7 +14,8 @@ noted readings reading = if ends_in reading readings then readings else readings
 
 -- where the readings are told, this one was noted
 abbrev pub Notes : Option (List ℕ) → Option (List ℕ) → ℕ → Type 0
-Notes old new reading = (readings : List ℕ) → old ≡ Some readings → new ≡ Some (noted readings reading)
+Notes old new reading =
+    (readings : List ℕ) → old ≡ Some readings → new ≡ Some (noted readings reading)
 
 -- a clock over memory: what it shows, one a call, and how many of them it has shown
 pub record Showing : Type 0 where

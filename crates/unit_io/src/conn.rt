@@ -111,7 +111,8 @@ pub trait Conn: Drop {
         requires { 0 < length buf.old }
 
         ensures some { (n : ℕ) → result ≡ ConnRead.Got n → (1 ≤ n) × (n ≤ length buf.old) }
-        ensures got { (n : ℕ) → result ≡ ConnRead.Got n → Adds (came self.old) (came self.new) (take n buf.new) }
+        ensures got { (n : ℕ) → result ≡ ConnRead.Got n
+            → Adds (came self.old) (came self.new) (take n buf.new) }
         ensures open { (n : ℕ) → result ≡ ConnRead.Got n → ended self.new ≡ ended self.old }
         ensures size { length buf.new ≡ length buf.old }
         ensures behind { (n : ℕ) → result ≡ ConnRead.Got n → drop n buf.new ≡ drop n buf.old }
@@ -119,7 +120,8 @@ pub trait Conn: Drop {
         ensures end { result ≡ ConnRead.End → ended self.new ≡ true }
         ensures end_came { result ≡ ConnRead.End → came self.new ≡ came self.old }
         ensures end_buf { result ≡ ConnRead.End → buf.new ≡ buf.old }
-        ensures past_end { ended self.old ≡ true → (result ≡ ConnRead.End) ⊎ (result ≡ ConnRead.Failed) }
+        ensures past_end { ended self.old ≡ true
+            → (result ≡ ConnRead.End) ⊎ (result ≡ ConnRead.Failed) }
 
         ensures not_yet { result ≡ ConnRead.NotYet → Rose (waits self.old) (waits self.new) }
         ensures not_yet_came { result ≡ ConnRead.NotYet → came self.new ≡ came self.old }
@@ -136,7 +138,8 @@ pub trait Conn: Drop {
         ensures went { went self.new ≡ went self.old }
         ensures number { number self.new ≡ number self.old }
         ensures listener { listener_name self.new ≡ listener_name self.old }
-        ensures addresses { (from_addr self.new ≡ from_addr self.old) × (to_addr self.new ≡ to_addr self.old) };
+        ensures addresses { (from_addr self.new ≡ from_addr self.old)
+            × (to_addr self.new ≡ to_addr self.old) };
 
     /// Takes bytes from the front of `bytes`.
     ///
@@ -145,7 +148,8 @@ pub trait Conn: Drop {
         requires { 0 < length bytes.now }
 
         ensures some { (n : ℕ) → result ≡ ConnWrite.Wrote n → (1 ≤ n) × (n ≤ length bytes.now) }
-        ensures wrote { (n : ℕ) → result ≡ ConnWrite.Wrote n → Adds (went self.old) (went self.new) (take n bytes.now) }
+        ensures wrote { (n : ℕ) → result ≡ ConnWrite.Wrote n
+            → Adds (went self.old) (went self.new) (take n bytes.now) }
 
         ensures not_yet { result ≡ ConnWrite.NotYet → Rose (waits self.old) (waits self.new) }
         ensures not_yet_went { result ≡ ConnWrite.NotYet → went self.new ≡ went self.old }
@@ -159,7 +163,8 @@ pub trait Conn: Drop {
         ensures ended { ended self.new ≡ ended self.old }
         ensures number { number self.new ≡ number self.old }
         ensures listener { listener_name self.new ≡ listener_name self.old }
-        ensures addresses { (from_addr self.new ≡ from_addr self.old) × (to_addr self.new ≡ to_addr self.old) };
+        ensures addresses { (from_addr self.new ≡ from_addr self.old)
+            × (to_addr self.new ≡ to_addr self.old) };
 
     /// Looks whether the connection still stands. No byte moves.
     ///
@@ -174,7 +179,8 @@ pub trait Conn: Drop {
         ensures waits { waits self.new ≡ waits self.old }
         ensures number { number self.new ≡ number self.old }
         ensures listener { listener_name self.new ≡ listener_name self.old }
-        ensures addresses { (from_addr self.new ≡ from_addr self.old) × (to_addr self.new ≡ to_addr self.old) };
+        ensures addresses { (from_addr self.new ≡ from_addr self.old)
+            × (to_addr self.new ≡ to_addr self.old) };
 
     /// The client's address.
     fn from(&self) -> Addr

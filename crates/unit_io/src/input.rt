@@ -32,7 +32,8 @@ pub fn read_all<S: Source>(alloc: Global, src: &mut S) -> Result<Bytes, Stop>
     ensures read { IfErr result (λ stop. IsReadStop stop) }
     ensures failed { status_in result ≡ 3 → Rose (S.faults src.old) (S.faults src.new) }
     ensures kept { status_in result ≢ 3 → S.faults src.new ≡ S.faults src.old }
-    ensures too_long { status_in result ≡ 6 → (input : List ℕ) → S.left src.old ≡ Some input → input_limit < length input }
+    ensures too_long { status_in result ≡ 6
+        → (input : List ℕ) → S.left src.old ≡ Some input → input_limit < length input }
 {
     let Ok(mut buf) = room(alloc) else {
         return Err(Stop::Memory);
@@ -60,14 +61,24 @@ pub fn read_all<S: Source>(alloc: Global, src: &mut S) -> Result<Bytes, Stop>
 mod tests {
     use super::*;
     use crate::memory::MemSource;
+    use crate::trial::{copied, room};
+    use std::alloc::AllocGlobal;
+    use std::process::Abort;
+
+    fn source(rt: &(impl Abort + AllocGlobal)) -> MemSource {
+        let mut pieces = room(rt, 1);
+        pieces.push(2).expect(rt, "pushed");
+        MemSource::open(copied(rt, b"abc"), pieces, Vec::new(rt.alloc()))
+    }
 
     #[test]
     fn reads_to_the_end(rt: HostRuntime) {
         let alloc = rt.alloc();
-        let content = Bytes::copy_of(alloc, b"abc").expect(&rt, "copied");
-        let pieces = vec![in alloc; 2usize].expect(&rt, "made");
-        let mut source = MemSource::open(content, pieces, Vec::new(alloc));
-        let input = read_all(alloc, &mut source).expect(&rt, "read");
-        assert!(rt; input.as_slice() == b"abc".as_slice());
+        let mut input = read_all(alloc, &mut source(&rt));
+        if let Err(stop) = input {
+            assert_eq!(rt; stop, Stop::Memory);
+            input = read_all(alloc, &mut source(&rt));
+        }
+        assert!(rt; input.expect(&rt, "read").as_slice() == b"abc".as_slice());
     }
 }

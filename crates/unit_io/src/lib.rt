@@ -13,6 +13,8 @@ mod memory;
 mod output;
 mod stop;
 mod stream;
+#[cfg(test)]
+mod trial;
 
 pub use clock::Clock;
 pub use conn::{Conn, ConnCheck, ConnRead, ConnWrite, Ticket};

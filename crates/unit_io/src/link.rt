@@ -47,9 +47,12 @@ pub trait Link: Drop {
     /// `NotYet` and `Failed` come only where their counts rose in this call. The link is idle exactly behind a `NotYet`, and
     /// no answer but `End` brings it to its end or back from there.
     fn accept(&mut self) -> Accepted<Self::Conn>
-        ensures conn { (c : Self.Conn) → result ≡ Accepted.Conn c → Adds (handed self.old) (handed self.new) (Self.Conn.number c ∷ []) }
-        ensures fresh_came { (c : Self.Conn) → result ≡ Accepted.Conn c → IsAtEnd (Self.Conn.came c) }
-        ensures fresh_went { (c : Self.Conn) → result ≡ Accepted.Conn c → IsAtEnd (Self.Conn.went c) }
+        ensures conn { (c : Self.Conn) → result ≡ Accepted.Conn c
+            → Adds (handed self.old) (handed self.new) (Self.Conn.number c ∷ []) }
+        ensures fresh_came { (c : Self.Conn) → result ≡ Accepted.Conn c
+            → IsAtEnd (Self.Conn.came c) }
+        ensures fresh_went { (c : Self.Conn) → result ≡ Accepted.Conn c
+            → IsAtEnd (Self.Conn.went c) }
         ensures fresh_faults { (c : Self.Conn) → result ≡ Accepted.Conn c → Self.Conn.faults c ≡ 0 }
 
         ensures end { result ≡ Accepted.End → at_end self.new }

@@ -21,7 +21,9 @@ impl Model for ListClock {
 
     ghost view = { λ c. record { script = c.readings.items; shown = c.shown } };
 
-    ghost invariant = { λ c. (0 < length c.readings.items) × (c.shown ≤ length c.readings.items) × IsNonDecreasing c.readings.items };
+    ghost invariant = { λ c. (0 < length c.readings.items)
+        × (c.shown ≤ length c.readings.items)
+        × IsNonDecreasing c.readings.items };
 }
 
 impl ListClock {
@@ -62,7 +64,8 @@ impl Clock for ListClock {
         ensures after { self.new ≡ after_showing self.old }
         ensures told { last_shown self.new ≡ result }
         ensures later { last_shown self.old ≤ result }
-        ensures noted { Notes (Some (readings_shown self.old)) (Some (readings_shown self.new)) result }
+        ensures noted { Notes (Some (readings_shown self.old))
+            (Some (readings_shown self.new)) result }
     {
         self.show()
     }
@@ -71,10 +74,11 @@ impl Clock for ListClock {
 #[cfg(test)]
 mod tests {
     use super::*;
+    use crate::trial::room;
 
     #[test]
     fn the_last_reading_repeats(rt: HostRuntime) {
-        let mut readings = Vec::new(rt.alloc());
+        let mut readings = room(&rt, 2);
         readings.push(5).expect(&rt, "pushed");
         readings.push(9).expect(&rt, "pushed");
         assert!(rt; readings.len() == 2);

@@ -170,7 +170,21 @@ impl Model for MemConn {
 
     ghost Value = { ConnState };
 
-    ghost view = { λ c. record { events = events_of c.script; fail_writes = c.fail_writes.items; writes = c.writes; number = c.number; listener = c.listener; from = c.from; to = c.to; came = c.came; went = c.went; ended = c.ended; faults = c.faults; waits = c.waits; unkept = c.unkept } };
+    ghost view = { λ c. record {
+      events = events_of c.script;
+      fail_writes = c.fail_writes.items;
+      writes = c.writes;
+      number = c.number;
+      listener = c.listener;
+      from = c.from;
+      to = c.to;
+      came = c.came;
+      went = c.went;
+      ended = c.ended;
+      faults = c.faults;
+      waits = c.waits;
+      unkept = c.unkept;
+    } };
 
     ghost invariant = { λ c. IsScript c.script × (c.ended ≡ true → events_of c.script ≡ []) };
 }
@@ -250,14 +264,16 @@ impl Conn for MemConn {
         ensures exact { IsConnRead self.old (length buf.old) result self.new }
 
         ensures some { (n : ℕ) → result ≡ ConnRead.Got n → (1 ≤ n) × (n ≤ length buf.old) }
-        ensures got { (n : ℕ) → result ≡ ConnRead.Got n → Adds (Some self.old.came) (Some self.new.came) (take n buf.new) }
+        ensures got { (n : ℕ) → result ≡ ConnRead.Got n
+            → Adds (Some self.old.came) (Some self.new.came) (take n buf.new) }
         ensures open { (n : ℕ) → result ≡ ConnRead.Got n → self.new.ended ≡ self.old.ended }
         ensures size { length buf.new ≡ length buf.old }
         ensures behind { (n : ℕ) → result ≡ ConnRead.Got n → drop n buf.new ≡ drop n buf.old }
         ensures end { result ≡ ConnRead.End → self.new.ended ≡ true }
         ensures end_came { result ≡ ConnRead.End → Some self.new.came ≡ Some self.old.came }
         ensures end_buf { result ≡ ConnRead.End → buf.new ≡ buf.old }
-        ensures past_end { self.old.ended ≡ true → (result ≡ ConnRead.End) ⊎ (result ≡ ConnRead.Failed) }
+        ensures past_end { self.old.ended ≡ true
+            → (result ≡ ConnRead.End) ⊎ (result ≡ ConnRead.Failed) }
         ensures not_yet { result ≡ ConnRead.NotYet → Rose self.old.waits self.new.waits }
         ensures not_yet_came { result ≡ ConnRead.NotYet → Some self.new.came ≡ Some self.old.came }
         ensures not_yet_buf { result ≡ ConnRead.NotYet → buf.new ≡ buf.old }
@@ -308,7 +324,8 @@ impl Conn for MemConn {
         ensures exact { IsConnWrite self.old bytes.now result self.new }
 
         ensures some { (n : ℕ) → result ≡ ConnWrite.Wrote n → (1 ≤ n) × (n ≤ length bytes.now) }
-        ensures wrote { (n : ℕ) → result ≡ ConnWrite.Wrote n → Adds (Some self.old.went) (Some self.new.went) (take n bytes.now) }
+        ensures wrote { (n : ℕ) → result ≡ ConnWrite.Wrote n
+            → Adds (Some self.old.went) (Some self.new.went) (take n bytes.now) }
         ensures not_yet { result ≡ ConnWrite.NotYet → Rose self.old.waits self.new.waits }
         ensures not_yet_went { result ≡ ConnWrite.NotYet → Some self.new.went ≡ Some self.old.went }
         ensures ready { result ≢ ConnWrite.NotYet → self.new.waits ≡ self.old.waits }
@@ -385,6 +402,7 @@ impl Conn for MemConn {
 #[cfg(test)]
 mod tests {
     use super::*;
+    use crate::trial::{copied, room};
     use std::alloc::AllocGlobal;
     use std::process::Abort;
 
@@ -398,19 +416,58 @@ mod tests {
         port: 8080,
     };
 
-    // A connection that gives three bytes, then each other event, and a byte behind the end. Its second write fails.
+    // A connection that gives three bytes, then each other event, and a byte behind the end. Its first write fails.
     fn connection(rt: &(impl Abort + AllocGlobal)) -> MemConn {
-        let alloc = rt.alloc();
-        let bytes = Bytes::copy_of(alloc, b"abc").expect(rt, "copied");
-        let mut script = Vec::new(alloc);
-        script.push(Event::Give(bytes)).expect(rt, "pushed");
+        let mut script = room(rt, 5);
+        script
+            .push(Event::Give(copied(rt, b"abc")))
+            .expect(rt, "pushed");
         script.push(Event::NotYet).expect(rt, "pushed");
         script.push(Event::Fail).expect(rt, "pushed");
         script.push(Event::End).expect(rt, "pushed");
         script.push(Event::NotYet).expect(rt, "pushed");
-        let fail_writes = vec![in alloc; 1u64].expect(rt, "made");
-        let listener = Bytes::copy_of(alloc, b"web").expect(rt, "copied");
-        MemConn::open(alloc, script, fail_writes, listener, FROM, TO)
+        let mut fail_writes = room(rt, 1);
+        fail_writes.push(0).expect(rt, "pushed");
+        MemConn::open(
+            rt.alloc(),
+            script,
+            fail_writes,
+            copied(rt, b"web"),
+            FROM,
+            TO,
+        )
+    }
+
+    // A read that meets bytes. One that finds no memory counts a fault and moves nothing, and the next one has the same bytes.
+    fn read_at_last(rt: &impl Abort, conn: &mut MemConn, buf: &mut [u8]) -> ConnRead
+        requires { 0 < length buf.old }
+    {
+        let came = conn.came.as_slice().len();
+        let faults = conn.faults;
+        let front = buf[0];
+        let first = conn.read(buf);
+        if first != ConnRead::Failed {
+            return first;
+        }
+        assert_eq!(rt; conn.came.as_slice().len(), came);
+        assert_eq!(rt; conn.faults, one_more(faults));
+        assert_eq!(rt; buf[0], front);
+        conn.read(buf)
+    }
+
+    // And so a write that wasn't told to fail.
+    fn written_at_last(rt: &impl Abort, conn: &mut MemConn, bytes: &[u8]) -> ConnWrite
+        requires { 0 < length bytes.now }
+    {
+        let went = conn.went.as_slice().len();
+        let faults = conn.faults;
+        let first = conn.write(bytes);
+        if first != ConnWrite::Failed {
+            return first;
+        }
+        assert_eq!(rt; conn.went.as_slice().len(), went);
+        assert_eq!(rt; conn.faults, one_more(faults));
+        conn.write(bytes)
     }
 
     // What the reads behind the bytes answer; the last one is asked twice.
@@ -427,30 +484,39 @@ mod tests {
     fn meets_each_event_in_parts(rt: HostRuntime) {
         let mut conn = connection(&rt);
         let mut small = [0u8; 2];
-        assert_eq!(rt; conn.read(&mut small), ConnRead::Got(2));
-        assert_eq!(rt; conn.read(&mut small), ConnRead::Got(1));
+        assert_eq!(rt; read_at_last(&rt, &mut conn, &mut small), ConnRead::Got(2));
+        assert_eq!(rt; read_at_last(&rt, &mut conn, &mut small), ConnRead::Got(1));
         assert!(rt; small.as_slice() == b"cb".as_slice());
         meets_the_rest(&rt, &mut conn, &mut [0; 4]);
         assert!(rt; conn.listener() == b"web".as_slice());
         assert!(rt; conn.from() == FROM && conn.to() == TO);
+        let unkept = conn.unkept;
         let ticket = conn.close();
         assert!(rt; ticket.came.as_slice() == b"abc".as_slice());
-        assert!(rt; ticket.ended && ticket.faults == 2 && ticket.number == 0);
+        assert!(rt; ticket.faults == unkept.saturating_add(2));
+        assert!(rt; ticket.ended && ticket.number == 0);
     }
 
     #[test]
     fn meets_each_event_whole(rt: HostRuntime) {
         let mut conn = connection(&rt);
         let mut buf = [9u8; 4];
-        assert_eq!(rt; conn.read(&mut buf), ConnRead::Got(3));
+        assert_eq!(rt; read_at_last(&rt, &mut conn, &mut buf), ConnRead::Got(3));
         meets_the_rest(&rt, &mut conn, &mut buf);
         assert!(rt; buf.as_slice() == b"abc\x09".as_slice());
         let text = [7u8; 79];
-        assert_eq!(rt; conn.write(&text), ConnWrite::Wrote(64));
-        assert_eq!(rt; conn.write(&text[64..]), ConnWrite::Failed);
-        assert_eq!(rt; conn.write(&text[64..]), ConnWrite::Wrote(15));
+        assert_eq!(rt; conn.write(&text), ConnWrite::Failed);
+        assert_eq!(rt;
+            written_at_last(&rt, &mut conn, &text),
+            ConnWrite::Wrote(64)
+        );
+        assert_eq!(rt;
+            written_at_last(&rt, &mut conn, &text[64..]),
+            ConnWrite::Wrote(15)
+        );
+        let unkept = conn.unkept;
         let ticket = conn.close();
         assert!(rt; ticket.went.as_slice() == text.as_slice());
-        assert!(rt; ticket.faults == 3);
+        assert!(rt; ticket.faults == unkept.saturating_add(3));
     }
 }

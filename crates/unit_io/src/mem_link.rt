@@ -40,19 +40,26 @@ impl Model for MemLink {
 
     ghost Value = { LinkState };
 
-    ghost view = { λ l. record { events = l.script.items; handed = l.handed; ended = l.ended; idle = l.idle; faults = l.faults; waits = l.waits } };
+    ghost view = { λ l. record {
+      events = l.script.items;
+      handed = l.handed;
+      ended = l.ended;
+      idle = l.idle;
+      faults = l.faults;
+      waits = l.waits;
+    } };
 
-    ghost invariant = { λ l. All IsFreshEvent l.script.items × (l.handed + length l.script.items < 2 ^ 64) };
+    ghost invariant = { λ l. All IsFreshEvent l.script.items
+        × (l.handed + length l.script.items < 2 ^ 64) };
 }
 
 impl MemLink {
-    ghost use Rattle.std.specs.Prelude.{false};
-    ghost use Rattle.unit_io.specs.MemLink.{IsFreshEvent, LinkState};
+    ghost use Rattle.unit_io.specs.MemLink.{IsFreshEvent, fresh};
 
     /// A link that has handed out no connection yet.
     pub fn open(script: Vec<LinkEvent>) -> MemLink
         requires { All IsFreshEvent script.items }
-        ensures { result ≡ record { events = script.items; handed = 0; ended = false; idle = false; faults = 0; waits = 0 } }
+        ensures { result ≡ fresh script.items }
     {
         MemLink {
             script: VecDeque::from(script),
@@ -84,23 +91,29 @@ impl Link for MemLink {
     fn accept(&mut self) -> Accepted<MemConn>
         ensures exact { IsAccept self.old result self.new }
 
-        ensures conn { (c : MemConn) → result ≡ Accepted.Conn c → Adds (Some (numbers_below self.old.handed)) (Some (numbers_below self.new.handed)) (c.number ∷ []) }
+        ensures conn { (c : MemConn) → result ≡ Accepted.Conn c
+            → Adds (Some (numbers_below self.old.handed)) (Some (numbers_below self.new.handed))
+            (c.number ∷ []) }
         ensures fresh_came { (c : MemConn) → result ≡ Accepted.Conn c → IsAtEnd (Some c.came) }
         ensures fresh_went { (c : MemConn) → result ≡ Accepted.Conn c → IsAtEnd (Some c.went) }
         ensures fresh_faults { (c : MemConn) → result ≡ Accepted.Conn c → c.faults ≡ 0 }
 
         ensures end { result ≡ Accepted.End → self.new.ended ≡ true }
-        ensures end_handed { result ≡ Accepted.End → Some (numbers_below self.new.handed) ≡ Some (numbers_below self.old.handed) }
-        ensures kept_end { result ≢ Accepted.End → ((self.new.ended ≡ true) ↔ (self.old.ended ≡ true)) }
+        ensures end_handed { result ≡ Accepted.End
+            → Some (numbers_below self.new.handed) ≡ Some (numbers_below self.old.handed) }
+        ensures kept_end { result ≢ Accepted.End
+            → ((self.new.ended ≡ true) ↔ (self.old.ended ≡ true)) }
 
         ensures not_yet { result ≡ Accepted.NotYet → Rose self.old.waits self.new.waits }
         ensures not_yet_idle { result ≡ Accepted.NotYet → self.new.idle ≡ true }
-        ensures not_yet_handed { result ≡ Accepted.NotYet → Some (numbers_below self.new.handed) ≡ Some (numbers_below self.old.handed) }
+        ensures not_yet_handed { result ≡ Accepted.NotYet
+            → Some (numbers_below self.new.handed) ≡ Some (numbers_below self.old.handed) }
         ensures ready { result ≢ Accepted.NotYet → self.new.waits ≡ self.old.waits }
         ensures not_idle { result ≢ Accepted.NotYet → self.new.idle ≡ true → ⊥ }
 
         ensures failed { result ≡ Accepted.Failed → Rose self.old.faults self.new.faults }
-        ensures failed_handed { result ≡ Accepted.Failed → Some (numbers_below self.new.handed) ≡ Some (numbers_below self.old.handed) }
+        ensures failed_handed { result ≡ Accepted.Failed
+            → Some (numbers_below self.new.handed) ≡ Some (numbers_below self.old.handed) }
         ensures sound { result ≢ Accepted.Failed → self.new.faults ≡ self.old.faults }
     {
         self.idle = false;
@@ -135,6 +148,7 @@ impl Link for MemLink {
 mod tests {
     use super::*;
     use crate::conn::Conn;
+    use crate::trial::room;
     use std::alloc::AllocGlobal;
     use unit_types::{Addr, Bytes};
 
@@ -164,7 +178,7 @@ mod tests {
 
     #[test]
     fn meets_each_event_and_then_the_end(rt: HostRuntime) {
-        let mut script = Vec::new(rt.alloc());
+        let mut script = room(&rt, 4);
         script
             .push(LinkEvent::Conn(connection(&rt)))
             .expect(&rt, "pushed");

@@ -58,18 +58,24 @@ impl Model for MemSource {
 
     ghost Value = { Script };
 
-    ghost view = { λ s. record { left = drop s.at s.content; pieces = s.pieces.items; fail_at = s.fail_at.items; calls = s.calls; faults = s.faults } };
+    ghost view = { λ s. record {
+      left = drop s.at s.content;
+      pieces = s.pieces.items;
+      fail_at = s.fail_at.items;
+      calls = s.calls;
+      faults = s.faults;
+    } };
 
     ghost invariant = { λ s. (s.at ≤ length s.content) × All (λ n. 0 < n) s.pieces.items };
 }
 
 impl MemSource {
-    ghost use Rattle.unit_io.specs.Memory.{Script};
+    ghost use Rattle.unit_io.specs.Memory.{unread};
 
     /// A source of `content`.
     pub fn open(content: Bytes, pieces: Vec<usize>, fail_at: Vec<u64>) -> MemSource
         requires { All (λ n. 0 < n) pieces.items }
-        ensures { result ≡ record { left = content; pieces = pieces.items; fail_at = fail_at.items; calls = 0; faults = 0 } }
+        ensures { result ≡ unread content pieces.items fail_at.items }
     {
         MemSource {
             content,
@@ -99,7 +105,8 @@ impl Source for MemSource {
         ensures failed { OnErr result (self.new ≡ after_failed_read self.old) }
         ensures bound { IfOk result (λ n. n ≤ length buf.new) }
         ensures size { length buf.new ≡ length buf.old }
-        ensures bytes { IfOk result (λ n. Takes (Some self.old.left) (Some self.new.left) (take n buf.new)) }
+        ensures bytes { IfOk result
+            (λ n. Takes (Some self.old.left) (Some self.new.left) (take n buf.new)) }
         ensures end { IfOk result (λ n. n ≡ 0 → 0 < length buf.old → IsAtEnd (Some self.old.left)) }
         ensures behind { IfOk result (λ n. drop n buf.new ≡ drop n buf.old) }
         ensures untouched { OnErr result (buf.new ≡ buf.old) }
@@ -140,15 +147,21 @@ impl Model for MemSink {
 
     ghost Value = { Tape };
 
-    ghost view = { λ s. record { written = s.written; fail_at = s.fail_at.items; calls = s.calls; faults = s.faults; unkept = s.unkept } };
+    ghost view = { λ s. record {
+      written = s.written;
+      fail_at = s.fail_at.items;
+      calls = s.calls;
+      faults = s.faults;
+      unkept = s.unkept;
+    } };
 }
 
 impl MemSink {
-    ghost use Rattle.unit_io.specs.Memory.{Tape};
+    ghost use Rattle.unit_io.specs.Memory.{unwritten};
 
     /// A sink to which nothing was written yet.
     pub fn open(alloc: Global, fail_at: Vec<u64>) -> MemSink
-        ensures { result ≡ record { written = []; fail_at = fail_at.items; calls = 0; faults = 0; unkept = 0 } }
+        ensures { result ≡ unwritten fail_at.items }
     {
         MemSink {
             written: Bytes::of(Vec::new(alloc)),
@@ -178,13 +191,16 @@ impl Sink for MemSink {
     ghost faults = { λ s. s.faults };
 
     fn write(&mut self, bytes: &[u8]) -> Result<usize, Failed>
-        ensures fails { Contains self.old.fail_at self.old.calls → IsErr result × (self.new ≡ after_failed_write self.old) }
+        ensures fails { Contains self.old.fail_at self.old.calls
+            → IsErr result × (self.new ≡ after_failed_write self.old) }
         ensures taken { IfOk result (λ n. n ≡ min 64 (length bytes.now)) }
         ensures after { IfOk result (λ n. self.new ≡ after_write self.old (take n bytes.now)) }
-        ensures unkept { OnErr result ((Contains self.old.fail_at self.old.calls → ⊥) → self.new ≡ after_unkept_write self.old) }
+        ensures unkept { OnErr result ((Contains self.old.fail_at self.old.calls → ⊥)
+            → self.new ≡ after_unkept_write self.old) }
         ensures bound { IfOk result (λ n. n ≤ length bytes.now) }
         ensures some { IfOk result (λ n. 0 < length bytes.now → 0 < n) }
-        ensures bytes { IfOk result (λ n. Adds (Some self.old.written) (Some self.new.written) (take n bytes.now)) }
+        ensures bytes { IfOk result
+            (λ n. Adds (Some self.old.written) (Some self.new.written) (take n bytes.now)) }
         ensures same { OnErr result (Some self.new.written ≡ Some self.old.written) }
         ensures cause { HasCause self.old.faults self.new.faults result }
     {
@@ -207,14 +223,16 @@ impl Sink for MemSink {
 #[cfg(test)]
 mod tests {
     use super::*;
+    use crate::trial::{copied, room};
+    use std::process::Abort;
 
     #[test]
     fn source_hands_out_pieces(rt: HostRuntime) {
-        let alloc = rt.alloc();
-        let content = Bytes::copy_of(alloc, b"abcdef").expect(&rt, "copied");
-        let pieces = vec![in alloc; 2usize].expect(&rt, "made");
-        let fail_at = vec![in alloc; 1u64].expect(&rt, "made");
-        let mut source = MemSource::open(content, pieces, fail_at);
+        let mut pieces = room(&rt, 1);
+        pieces.push(2).expect(&rt, "pushed");
+        let mut fail_at = room(&rt, 1);
+        fail_at.push(1).expect(&rt, "pushed");
+        let mut source = MemSource::open(copied(&rt, b"abcdef"), pieces, fail_at);
         let mut buf = [0u8; 3];
         assert!(rt; matches!(source.read(&mut buf), Ok(2)));
         assert!(rt; source.read(&mut buf).is_err());
@@ -224,15 +242,29 @@ mod tests {
         assert!(rt; matches!(source.read(&mut buf), Ok(0)));
     }
 
+    // A write that wasn't told to fail. One that finds no memory counts a fault and writes nothing, and the next one writes the
+    // same bytes.
+    fn written_at_last(rt: &impl Abort, sink: &mut MemSink, bytes: &[u8]) -> Result<usize, Failed> {
+        let before = sink.written().len();
+        let faults = sink.faults;
+        let first = sink.write(bytes);
+        if first.is_ok() {
+            return first;
+        }
+        assert_eq!(rt; sink.written().len(), before);
+        assert_eq!(rt; sink.faults, one_more(faults));
+        sink.write(bytes)
+    }
+
     #[test]
     fn sink_takes_64_bytes_a_write(rt: HostRuntime) {
-        let alloc = rt.alloc();
-        let fail_at = vec![in alloc; 1u64].expect(&rt, "made");
-        let mut sink = MemSink::open(alloc, fail_at);
+        let mut fail_at = room(&rt, 1);
+        fail_at.push(0).expect(&rt, "pushed");
+        let mut sink = MemSink::open(rt.alloc(), fail_at);
         let text = [7u8; 79];
-        assert!(rt; matches!(sink.write(&text), Ok(64)));
-        assert!(rt; sink.write(&text[64..]).is_err());
-        assert!(rt; matches!(sink.write(&text[64..]), Ok(15)));
+        assert!(rt; sink.write(&text).is_err());
+        assert!(rt; matches!(written_at_last(&rt, &mut sink, &text), Ok(64)));
+        assert!(rt; matches!(written_at_last(&rt, &mut sink, &text[64..]), Ok(15)));
         assert!(rt; sink.written() == text.as_slice());
     }
 }

@@ -44,7 +44,8 @@ impl Stop {
 
 // Writes the line of an input that is too long or broken.
 fn write_input_line<E: Sink>(err: &mut E, place: u64) -> Result<(), Failed>
-    ensures all { OnOk result (Adds (E.written err.old) (E.written err.new) (line_of (Stop.Input place))) }
+    ensures all { OnOk result
+        (Adds (E.written err.old) (E.written err.new) (line_of (Stop.Input place))) }
     ensures front { AddsFront (E.written err.old) (E.written err.new) (line_of (Stop.Input place)) }
     ensures cause { HasCause (E.faults err.old) (E.faults err.new) result }
 {
@@ -80,9 +81,15 @@ mod tests {
 
     #[test]
     fn tells_the_place_of_an_input(rt: HostRuntime) {
+        let line = b"unit: input 211\n".as_slice();
         let mut sink = MemSink::open(rt.alloc(), Vec::new(rt.alloc()));
-        assert!(rt; write_line(&mut sink, Stop::Input(211)).is_ok());
-        assert!(rt; sink.written() == b"unit: input 211\n".as_slice());
+        if write_line(&mut sink, Stop::Input(211)).is_err() {
+            // It found no memory, and a front of the line was written.
+            assert!(rt; line.starts_with(sink.written()));
+            sink = MemSink::open(rt.alloc(), Vec::new(rt.alloc()));
+            assert!(rt; write_line(&mut sink, Stop::Input(211)).is_ok());
+        }
+        assert!(rt; sink.written() == line);
         assert_eq!(rt; Stop::Input(211).status(), 6);
     }
 }

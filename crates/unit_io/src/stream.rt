@@ -50,7 +50,8 @@ pub trait Sink {
     fn write(&mut self, bytes: &[u8]) -> Result<usize, Failed>
         ensures bound { IfOk result (λ n. n ≤ length bytes.now) }
         ensures some { IfOk result (λ n. 0 < length bytes.now → 0 < n) }
-        ensures bytes { IfOk result (λ n. Adds (written self.old) (written self.new) (take n bytes.now)) }
+        ensures bytes { IfOk result
+            (λ n. Adds (written self.old) (written self.new) (take n bytes.now)) }
         ensures same { OnErr result (written self.new ≡ written self.old) }
         ensures cause { HasCause (faults self.old) (faults self.new) result };
 }

@@ -1,4 +1,4 @@
-use Rattle.std.proofs.Common.{rules, ◌≡◌, ◌∙◌, ◌++◌, ◌∷◌, [], ℕ, List, codes, decimal, subst}
+use Rattle.std.proofs.Common.{◌≡◌, ◌∙◌, ◌++◌, ◌∷◌, [], ℕ, List, codes, decimal, subst}
 use Rattle.unit_io.specs.Told.{Adds, AddsFront}
 use Rattle.unit_io.proofs.ToldLemmas.{adds_both, adds_front_behind, adds_front_first, on_ok}
 use Rattle.unit_io.proofs.stop.write_input_line.Goals as goal

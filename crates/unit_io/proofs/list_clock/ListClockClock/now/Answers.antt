@@ -1,4 +1,4 @@
-use Rattle.std.proofs.Common.{◌≡◌, ◌≤◌, ◌∙◌, ℕ, List, Some, sym, ap, subst}
+use Rattle.std.proofs.Common.{◌≤◌, ◌∙◌, ℕ, List, Some, sym, ap, subst}
 use Rattle.std.proofs.lemmas.Option.{same_Some}
 use Rattle.unit_io.specs.Readings.{last_shown, noted, readings_shown}
 use Rattle.unit_io.proofs.ReadingLemmas.{later, shown_noted, told}
