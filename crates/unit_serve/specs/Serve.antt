@@ -1,6 +1,6 @@
 -- The words of `serve`, as a command of `clap`. What `clap` has for words is its own definition:
 -- `fault_of` and `matches_of`.
-use Rattle.std.specs.Prelude.{ℕ, ◌≡◌, ◌^◌, ◌<◌, pos, List, [], ◌∷◌, Some, codes, length, true}
+use Rattle.std.specs.Prelude.{ℕ, ◌≡◌, ◌^◌, ◌<◌, ◌≤◌, pos, List, [], ◌∷◌, Some, codes, length, true}
 use Rattle.std.specs.Prelude.{slice_index, slice_index_or}
 use Rattle.std.specs.Str.Parse.{IsNumeral, digits_value, without_leading_plus}
 use Rattle.clap.specs.Words.{App, Rule, Text, all_of, fault_of, first_of, matches_of, new_app}
@@ -53,33 +53,48 @@ HasMatches words = fault_of serve words ≡ []
 
 -- ---- the values
 
--- The number that a text writes, with or without a plus in front, where it is one of so many bits.
--- Each value of these matches is.
-abbrev pub IsNumberOf : ℕ → Text → ℕ → Type 0
-IsNumberOf bits text n = IsNumeral 10 (without_leading_plus text)
-    → digits_value 10 (without_leading_plus text) < 2 ^ bits
-    → n ≡ digits_value 10 (without_leading_plus text)
+-- n is the number that the text writes, with or without a plus in front, and lies in the bounds
+pub record IsNumberIn (low high : ℕ) (text : Text) (n : ℕ) : Type 0 where
+  pub numeral : IsNumeral 10 (without_leading_plus text)
+  pub value : n ≡ digits_value 10 (without_leading_plus text)
+  pub least : low ≤ n
+  pub most : n ≤ high
 
--- the first value of an argument
-abbrev pub IsValueOf : Text → List Text → ℕ → ℕ → Type 0
-IsValueOf id words bits n =
-    (text : Text) → first_of id (matches_of serve words) ≡ Some text → IsNumberOf bits text n
+-- n is the number of the first value of an argument, which has one
+pub record IsValueOf (id : Text) (low high : ℕ) (words : List Text) (n : ℕ) : Type 0 where
+  pub text : Text
+  pub first : first_of id (matches_of serve words) ≡ Some text
+  pub number : IsNumberIn low high text n
 
--- each number is that of its text
-pub record AreNumbersOf (bits : ℕ) (texts : List Text) (ns : List ℕ) : Type 0 where
-  pub count : length ns ≡ length texts
-  pub each : (i : ℕ) → i < length texts
-      → IsNumberOf bits (slice_index_or texts i []) (slice_index ns i)
-
--- the values of an argument, in their order
-abbrev pub AreValuesOf : Text → List Text → ℕ → List ℕ → Type 0
-AreValuesOf id words bits ns =
-    (texts : List Text) → all_of id (matches_of serve words) ≡ Some texts
-    → AreNumbersOf bits texts ns
+-- the numbers are those of the values of an argument, one for each in their order; it has from one
+-- value to `most`
+pub record AreValuesOf (id : Text) (low high most : ℕ) (words : List Text) (ns : List ℕ) : Type 0
+  where
+    pub texts : List Text
+    pub all : all_of id (matches_of serve words) ≡ Some texts
+    pub count : length ns ≡ length texts
+    pub some : 1 ≤ length ns
+    pub few : length ns ≤ most
+    pub each : (i : ℕ) → i < length ns
+        → IsNumberIn low high (slice_index_or texts i []) (slice_index ns i)
 
 -- the values of the matches for the words
 pub record IsRead (words : List Text) (s : ServeWords) : Type 0 where
-  pub control : IsValueOf (codes "control") words 16 s.control
-  pub ports : AreValuesOf (codes "ports") words 16 s.ports.items
-  pub workers : IsValueOf (codes "workers") words 32 s.workers
-  pub accept : IsValueOf (codes "accept") words 32 s.accept
+  pub control : IsValueOf (codes "control") 1 65535 words s.control
+  pub ports : AreValuesOf (codes "ports") 1 65535 4 words s.ports.items
+  pub workers : IsValueOf (codes "workers") 1 4 words s.workers
+  pub accept : IsValueOf (codes "accept") 1 8192 words s.accept
+
+-- ---- reading a text
+
+-- what `parse` gives for a text that writes a number of so many bits
+abbrev pub ReadsAs : ℕ → Text → ℕ → Type 0
+ReadsAs bits text n = IsNumeral 10 (without_leading_plus text)
+    → digits_value 10 (without_leading_plus text) < 2 ^ bits
+    → n ≡ digits_value 10 (without_leading_plus text)
+
+-- each number is what `parse` gives for its text
+pub record EachReadsAs (bits : ℕ) (texts : List Text) (ns : List ℕ) : Type 0 where
+  pub count : length ns ≡ length texts
+  pub each : (i : ℕ) → i < length texts
+      → ReadsAs bits (slice_index_or texts i []) (slice_index ns i)

@@ -2,7 +2,7 @@
 ghost use Rattle.std.specs.Prelude.{◌≡◌, ◌↔◌, ℕ, List, false, map, string_bytes};
 ghost use Rattle.std.specs.Prelude.{IfOk, IfSome, IsSome};
 ghost use Rattle.clap.specs.Words.{app_of, rule_of, HasMatchesOf};
-ghost use Rattle.unit_serve.specs.Serve.{HasMatches, IsNumberOf, IsRead, AreNumbersOf};
+ghost use Rattle.unit_serve.specs.Serve.{EachReadsAs, HasMatches, IsRead, ReadsAs};
 ghost use Rattle.unit_serve.specs.Serve as spec;
 
 use clap::error::ErrorKind;
@@ -74,7 +74,7 @@ fn serve_command<'a>(alloc: Global) -> Result<Command<'a>, AllocError>
 
 /// What the words after the program's name ask for, of which the first is `serve`. None exactly
 /// where `clap` has no matches for them as that command, or help is asked; else each field is the
-/// value of the matches.
+/// number that the value of the matches writes, and lies in its range.
 ///
 /// `clap` takes a number with a plus in front or with leading zeros, as `+8080` and `08080`. Fails
 /// for want of memory alone.
@@ -93,10 +93,11 @@ pub fn serve_words(alloc: Global, words: &[String]) -> Result<Option<ServeWords>
     }
 }
 
-// The values of the matches.
+// The numbers of the matches. Each argument has a value that writes a number in its range, so that
+// no 0 below is ever told.
 fn read(alloc: Global, matches: &ArgMatches<'_>) -> Result<ServeWords, AllocError>
-    ensures { IfOk result (λ r. (words : List (List ℕ)) → HasMatchesOf spec.serve words matches.now
-        → IsRead words r) }
+    ensures { IfOk result (λ r. (words : List (List ℕ)) → HasMatches words
+        → HasMatchesOf spec.serve words matches.now → IsRead words r) }
 {
     let control = matches.get_str("control");
     let workers = matches.get_str("workers");
@@ -111,7 +112,7 @@ fn read(alloc: Global, matches: &ArgMatches<'_>) -> Result<ServeWords, AllocErro
 }
 
 fn port_of(text: Option<&str>) -> u16
-    ensures { IfSome text.entry (λ t. IsNumberOf 16 t.now result) }
+    ensures { IfSome text.entry (λ t. ReadsAs 16 t.now result) }
 {
     match text {
         Some(text) => port_in(text),
@@ -120,7 +121,7 @@ fn port_of(text: Option<&str>) -> u16
 }
 
 fn port_in(text: &str) -> u16
-    ensures { IsNumberOf 16 text.now result }
+    ensures { ReadsAs 16 text.now result }
 {
     match text.parse::<u16>() {
         Ok(port) => port,
@@ -130,7 +131,7 @@ fn port_in(text: &str) -> u16
 
 fn ports_of(alloc: Global, texts: Option<&[&str]>) -> Result<Vec<u16>, AllocError>
     ensures { IfOk result (λ ports. IfSome texts.entry
-        (λ ts. AreNumbersOf 16 (map (λ t. t.now) ts.now) ports.items)) }
+        (λ ts. EachReadsAs 16 (map (λ t. t.now) ts.now) ports.items)) }
 {
     match texts {
         Some(texts) => ports_in(alloc, texts),
@@ -139,7 +140,7 @@ fn ports_of(alloc: Global, texts: Option<&[&str]>) -> Result<Vec<u16>, AllocErro
 }
 
 fn ports_in(alloc: Global, texts: &[&str]) -> Result<Vec<u16>, AllocError>
-    ensures { IfOk result (λ ports. AreNumbersOf 16 (map (λ t. t.now) texts.now) ports.items) }
+    ensures { IfOk result (λ ports. EachReadsAs 16 (map (λ t. t.now) texts.now) ports.items) }
 {
     let mut ports = Vec::with_capacity(alloc, texts.len())?;
     for text in texts {
@@ -149,7 +150,7 @@ fn ports_in(alloc: Global, texts: &[&str]) -> Result<Vec<u16>, AllocError>
 }
 
 fn number_of(text: Option<&str>) -> u32
-    ensures { IfSome text.entry (λ t. IsNumberOf 32 t.now result) }
+    ensures { IfSome text.entry (λ t. ReadsAs 32 t.now result) }
 {
     match text {
         Some(text) => number_in(text),
@@ -158,7 +159,7 @@ fn number_of(text: Option<&str>) -> u32
 }
 
 fn number_in(text: &str) -> u32
-    ensures { IsNumberOf 32 text.now result }
+    ensures { ReadsAs 32 text.now result }
 {
     match text.parse::<u32>() {
         Ok(number) => number,

@@ -11,5 +11,7 @@ returns-in-Ok-clause-some c =
 
 pub returns-in-Ok-clause-values : goal.returns-in-Ok-clause-values
 returns-in-Ok-clause-values c =
+    let none = c.in-Ok.ensures.kinds (ap is_simple_and_free c.in_ok-command.ensures ∙ free) in
     c.in_ok-read-in-Ok.ensures (map string_bytes c.args.words.now)
+    (subst (λ (a : App). fault_of a (map string_bytes c.args.words.now) ≡ []) c.in_ok-command.ensures none)
     (subst (λ (a : App). HasMatchesOf a (map string_bytes c.args.words.now) c.in-Ok.matches) c.in_ok-command.ensures c.in-Ok.ensures.matches)
