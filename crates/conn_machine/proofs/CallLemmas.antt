@@ -1,5 +1,5 @@
 -- Each call leaves a sound account.
-use Rattle.std.proofs.Common.{ℕ, zero, suc, ◌≡◌, ◌≢◌, ◌-◌, ◌≤◌, ◌<◌, zero-le, arith, refl, sym, ap, ◌∙◌, subst, List, [], ◌∷◌, ◌++◌, length, take, drop, Bool, true, false, not, ◌||◌, ◌==◌, ◌⊎◌, inl, inr, if◌then◌else◌, Option, Some, None}
+use Rattle.std.proofs.Common.{ℕ, zero, suc, ◌≡◌, ◌≢◌, ◌-◌, ◌≤◌, arith, refl, sym, ap, ◌∙◌, subst, List, ◌++◌, take, drop, Bool, true, false, ◌||◌, ◌==◌, ◌⊎◌, inl, inr, if◌then◌else◌, Option, Some, None}
 use Rattle.std.proofs.lemmas.Bool.Decides.{Decides-eqb}
 use Rattle.std.proofs.lemmas.List.{take-append-drop}
 use Rattle.unit_types.specs.declared.message.Reply.{Reply}
@@ -7,8 +7,8 @@ use Rattle.unit_types.specs.declared.message.Request.{Request}
 use Rattle.conf_validate.specs.Configuration.{Configuration}
 use Rattle.route_match.specs.Target.{target_of}
 use Rattle.http_front.specs.Front.{head_begun}
-use Rattle.http_front.specs.Message.{Message, request_of, is_last_request}
-use Rattle.http_front.specs.NextUnit.{Found, request, bad, cut, finished, wait, NextUnit, next_unit}
+use Rattle.http_front.specs.Message.{request_of, is_last_request}
+use Rattle.http_front.specs.NextUnit.{Found, request, bad, cut, finished, wait}
 use Rattle.http_front.specs.Session.{request_limit}
 use Rattle.http_front.specs.Written.{error_reply}
 use Rattle.conn_machine.specs.declared.receipt.Kind.{Kind}
@@ -18,8 +18,8 @@ use Rattle.conn_machine.specs.declared.receipt.Receipt.{Receipt}
 use Rattle.conn_machine.specs.Answers.{Connection, closes, reply_to}
 use Rattle.conn_machine.specs.Asking.{is_app}
 use Rattle.conn_machine.specs.Calls.{Account, opened, replied_with, closed_with, taken_with, own_answer, found_at, front_answer, settled, on_bytes, on_end, on_answer, ended_at, given_up_with, on_gone, wrote, IsSound, Reaches}
-use Rattle.conn_machine.specs.States.{Numbered, State, unit_under, Told, Follows, asks_by, IsSettled}
-use Rattle.conn_machine.specs.Steps.{fed, at_end, taken_up, replied, closed_by, given_up, shown}
+use Rattle.conn_machine.specs.States.{Numbered, Follows, asks_by}
+use Rattle.conn_machine.specs.Steps.{fed, at_end}
 use Rattle.conn_machine.specs.Turns.{replies, ends, ends_between, receipt_of, turn_of}
 use Rattle.conn_machine.proofs.FrontLaws.{nothing_begun}
 use Rattle.conn_machine.proofs.NamedTurns.{own_is, refusal_is, cut_is, gone_is, memory_is}
@@ -91,7 +91,7 @@ one_low : (n : ℕ) → (n == 0) ≡ false → 1 ≤ n
 one_low zero is = absurd (cc (sym ((Decides-eqb 0 0).1 refl) ∙ is))
 one_low (suc n) is = omega arith
 
-more_low : (request : Option Request) (left : ℕ) → closes request left ≡ false → 1 ≤ left - 1
+pub more_low : (request : Option Request) (left : ℕ) → closes request left ≡ false → 1 ≤ left - 1
 more_low None left is = absurd (cc is)
 more_low (Some r) left is = by (is_last_request r) is
   where

@@ -1,12 +1,12 @@
 -- Courses behind what was written before, and the turn of one receipt.
-use Rattle.std.proofs.Common.{ℕ, ◌≡◌, ◌-◌, ◌≤◌, refl, sym, ap, ◌∙◌, subst, List, [], ◌∷◌, ◌++◌, length, drop, Bool, true, false, not, ◌&&◌, nat_le, if◌then◌else◌, Option, Some, None, slice_get, append_assoc, append-nil}
+use Rattle.std.proofs.Common.{ℕ, ◌≡◌, ◌-◌, refl, sym, ap, ◌∙◌, List, [], ◌∷◌, ◌++◌, Bool, true, false, not, ◌&&◌, nat_le, if◌then◌else◌, Option, Some, None, slice_get, append_assoc}
 use Rattle.conf_validate.specs.Configuration.{Configuration}
 use Rattle.http_front.specs.Front.{head_begun}
-use Rattle.http_front.specs.NextUnit.{NextUnit, next_unit}
+use Rattle.http_front.specs.NextUnit.{next_unit}
 use Rattle.http_front.specs.Written.{continue_bytes}
 use Rattle.conn_machine.specs.declared.receipt.Receipt.{Receipt}
 use Rattle.conn_machine.specs.Answers.{Connection}
-use Rattle.conn_machine.specs.Sessions.{Course, Mark, still_open, under_way, behind, stands, receipt_course, unbegun, unit_course, course_from}
+use Rattle.conn_machine.specs.Sessions.{Course, still_open, under_way, behind, stands, receipt_course, unbegun, unit_course, course_from}
 
 pub behind_nothing : (course : Option Course) → course ≡ behind [] [] course
 behind_nothing None = refl

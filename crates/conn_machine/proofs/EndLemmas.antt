@@ -1,5 +1,5 @@
 -- What was written and logged so far is the session of what came so far.
-use Rattle.std.proofs.Common.{ℕ, ◌≡◌, ◌≢◌, ◌↔◌, refl, sym, ap, ◌∙◌, subst, List, [], ◌∷◌, ◌++◌, length, Bool, true, false, ◌||◌, nat_lt, if◌then◌else◌, Option, Some, None, option_map, option_and_then, append_assoc, append-nil}
+use Rattle.std.proofs.Common.{ℕ, ◌≡◌, ◌↔◌, refl, sym, ap, ◌∙◌, subst, List, [], ◌∷◌, ◌++◌, length, Bool, true, false, ◌||◌, nat_lt, if◌then◌else◌, Option, Some, None, option_map, option_and_then, append-nil}
 use Rattle.std.specs.Option.{is_some}
 use Rattle.conf_validate.specs.Configuration.{Configuration}
 use Rattle.http_front.specs.Front.{head_begun}
@@ -12,7 +12,7 @@ use Rattle.conn_machine.specs.Answers.{Connection}
 use Rattle.conn_machine.specs.Sessions.{Course, Mark, still_open, under_way, closed, behind, stands, closed_course, course_from, course_of, session_in, session_of, log_lines_of, waits_in, is_under_way}
 use Rattle.conn_machine.specs.States.{Numbered, State, unit_under, Agrees, Told, GoesOn, Fits, course_left, Follows, asks_by, IsSettled, counted, is_over, need_under, need_of}
 use Rattle.conn_machine.specs.Steps.{closed_by}
-use Rattle.conn_machine.specs.Turns.{ends, turn_of}
+use Rattle.conn_machine.specs.Turns.{turn_of}
 use Rattle.conn_machine.proofs.CourseLemmas.{course_unbegun}
 use Rattle.conn_machine.proofs.StepLemmas.{fits_none, follows_close}
 use Rattle.conn_machine.proofs.UnitLaws.{UnitLaws}

@@ -1,5 +1,5 @@
 -- A machine that closes without a reply.
-use Rattle.std.proofs.Common.{ℕ, ◌≡◌, ◌≢◌, refl, sym, ap, ◌∙◌, subst, List, [], ◌∷◌, ◌++◌, Bool, true, false, if◌then◌else◌, Option, Some, None}
+use Rattle.std.proofs.Common.{ℕ, ◌≡◌, refl, sym, ap, ◌∙◌, subst, List, [], ◌∷◌, ◌++◌, Bool, true, false, if◌then◌else◌, Option, Some, None}
 use Rattle.unit_types.specs.declared.message.Reply.{Reply}
 use Rattle.unit_types.specs.declared.message.Request.{Request}
 use Rattle.unit_types.specs.declared.message.Addr.{Addr}
@@ -8,7 +8,7 @@ use Rattle.http_front.specs.Reading.{reading_of}
 use Rattle.conn_machine.specs.declared.receipt.Kind.{Kind}
 use Rattle.conn_machine.specs.Answers.{Connection}
 use Rattle.conn_machine.specs.Calls.{Account, ended_at, given_up_with, on_gone, opened}
-use Rattle.conn_machine.specs.Shows.{Held, connection_of, opened_held, bound_in, state_in, Carries, Stands, Shows, number_or, ended_with, given_up_as}
+use Rattle.conn_machine.specs.Shows.{Held, connection_of, opened_held, bound_in, Carries, Stands, Shows, number_or, ended_with, given_up_as}
 use Rattle.conn_machine.specs.States.{Numbered, Told}
 use Rattle.conn_machine.specs.Steps.{closed_by, fed, given_up, with_bytes}
 use Rattle.conn_machine.specs.Turns.{receipt_of}

@@ -5,7 +5,6 @@ use Rattle.std.specs.Str.{is_utf8, chars}
 use lib.Utf8.{encode}
 use Rattle.httparse.specs.Grammar.{print_request, is_token_byte, trim_ows}
 use Rattle.percent_encoding.specs.Percent.{percent_decode}
-use Rattle.unit_types.specs.declared.message.Addr.{Addr}
 use Rattle.unit_types.specs.declared.message.Request.{Request}
 use Rattle.unit_types.specs.declared.message.Reply.{Reply}
 use Rattle.access_log.specs.Line.{line_limit}

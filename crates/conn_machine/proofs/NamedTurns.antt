@@ -1,24 +1,19 @@
 -- The turn of each kind of receipt, where what it needs is there.
-use Rattle.std.proofs.Common.{ℕ, ◌≡◌, ◌≢◌, ◌<◌, ◌≤◌, ◌↔◌, refl, sym, ap, ◌∙◌, Bool, true, false, not, ◌&&◌, ◌==◌, nat_lt, nat_le, length, Option, Some, None}
-use Rattle.std.specs.Arc.{arc_value}
+use Rattle.std.proofs.Common.{ℕ, ◌≡◌, ◌≢◌, ◌<◌, ◌≤◌, ◌↔◌, refl, ap, ◌∙◌, Bool, true, false, not, ◌&&◌, ◌==◌, nat_lt, nat_le, Some, None}
 use Rattle.std.specs.Option.{is_some}
 use Rattle.std.proofs.lemmas.Bool.{le-leb}
 use Rattle.std.proofs.lemmas.Bool.Decides.{Decides-eqb, Decides-ltb}
-use Rattle.unit_types.specs.declared.message.Reply.{Reply}
-use Rattle.unit_types.specs.declared.message.Request.{Request}
-use Rattle.request_context.specs.Record.{request_record}
 use Rattle.request_context.specs.declared.asked.Asked.{Asked}
 use Rattle.conf_validate.specs.Configuration.{Configuration}
 use Rattle.route_match.specs.Target.{target_of}
 use Rattle.http_front.specs.Message.{Message, request_of}
 use Rattle.http_front.specs.NextUnit.{Found, request, bad, cut}
 use Rattle.http_front.specs.Written.{error_reply}
-use Rattle.conn_machine.specs.declared.receipt.Kind.{Kind}
 use Rattle.conn_machine.specs.declared.receipt.Kind.TheVariants as kind
 use Rattle.conn_machine.specs.declared.receipt.Why.{Why}
 use Rattle.conn_machine.specs.Answers.{Connection, reply_to}
 use Rattle.conn_machine.specs.Asking.{asked_of, is_app, is_same_asked, timeout_in}
-use Rattle.conn_machine.specs.Turns.{Turn, replies, ends, unfit, when, is_why, receipt_of, target_for, turn_of}
+use Rattle.conn_machine.specs.Turns.{Turn, replies, ends, when, is_why, receipt_of, target_for, turn_of}
 use Rattle.conn_machine.proofs.SameLemmas.{asked_decides}
 
 when_both : (a b : Bool) (turn : Turn) → a ≡ true → b ≡ true → when (a && b) turn ≡ turn

@@ -1,11 +1,10 @@
 -- What a connection that needs something has.
-use Rattle.std.proofs.Common.{ℕ, ◌≡◌, ◌≢◌, refl, sym, ap, ◌∙◌, subst, List, [], length, Bool, true, false, ◌⊎◌, inl, inr, nat_lt, if◌then◌else◌, Option, Some, None}
+use Rattle.std.proofs.Common.{ℕ, ◌≡◌, ◌≢◌, refl, sym, ap, ◌∙◌, length, Bool, true, false, ◌⊎◌, inl, inr, nat_lt, if◌then◌else◌, Option, Some, None}
 use Rattle.std.specs.Option.{is_some}
-use Rattle.unit_types.specs.declared.message.Request.{Request}
 use Rattle.conf_validate.specs.Configuration.{Configuration}
 use Rattle.route_match.specs.Target.{target_of}
 use Rattle.http_front.specs.Message.{request_of}
-use Rattle.http_front.specs.NextUnit.{Found, request, bad, cut, finished, wait, NextUnit, next_unit}
+use Rattle.http_front.specs.NextUnit.{Found, request, bad, cut, finished, wait, next_unit}
 use Rattle.conn_machine.specs.declared.receipt.Need.{Need}
 use Rattle.conn_machine.specs.declared.receipt.Need.TheVariants.{Read, Ask, Write, Close}
 use Rattle.conn_machine.specs.Answers.{Connection}

@@ -4,19 +4,19 @@ use Rattle.std.proofs.lemmas.Bool.Decides.{Decides-eqb}
 use Rattle.unit_types.specs.declared.message.Request.{Request}
 use Rattle.conf_validate.specs.Configuration.{Configuration}
 use Rattle.http_front.specs.Front.{head_begun}
-use Rattle.http_front.specs.Message.{Message, request_of, is_head_request, is_last_request}
+use Rattle.http_front.specs.Message.{Message, request_of, is_last_request}
 use Rattle.http_front.specs.NextUnit.{Found, request, bad, cut, finished, wait, NextUnit, next_unit}
 use Rattle.http_front.specs.Session as plain
 use Rattle.http_front.specs.Session.{Session, found_session, request_limit, session_from, plain_session_of}
-use Rattle.http_front.specs.Written.{continue_bytes, error_bytes, error_reply, http_bytes}
+use Rattle.http_front.specs.Written.{continue_bytes, error_bytes, error_reply}
 use Rattle.conn_machine.specs.declared.receipt.Kind.{Kind}
 use Rattle.conn_machine.specs.declared.receipt.Kind.TheVariants as kind
 use Rattle.conn_machine.specs.declared.receipt.Receipt.{Receipt}
-use Rattle.conn_machine.specs.Answers.{Connection, answer_of, closes, is_to_head, reply_line, reply_to}
+use Rattle.conn_machine.specs.Answers.{Connection, answer_of, closes, reply_line, reply_to}
 use Rattle.conn_machine.specs.Asking.{is_app}
 use Rattle.conn_machine.specs.Laws.{ArePlain, is_plain_kind, plain_connection}
-use Rattle.conn_machine.specs.Sessions.{Course, Mark, still_open, under_way, closed, behind, stands, closed_course, unanswered, unbegun, turn_course, unit_course, receipt_course, course_from, course_of, session_in, session_of}
-use Rattle.conn_machine.specs.Turns.{Turn, replies, ends, unfit, when, target_for, on_request, app_turn, own_turn, cut_turn, kind_turn, turn_of, ends_between}
+use Rattle.conn_machine.specs.Sessions.{Course, Mark, still_open, under_way, closed, behind, stands, closed_course, unbegun, turn_course, unit_course, receipt_course, course_from, session_in, session_of}
+use Rattle.conn_machine.specs.Turns.{replies, ends, when, target_for, kind_turn, turn_of, ends_between}
 use Rattle.conn_machine.proofs.FrontLaws.{IsIdle, unbegun_idle}
 
 abbrev in_course : Course → Option Session

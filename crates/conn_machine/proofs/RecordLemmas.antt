@@ -1,5 +1,5 @@
 -- The record of a request that is bounded is short.
-use Rattle.std.proofs.Common.{ℕ, ◌≡◌, ◌+◌, ◌*◌, ◌≤◌, refl, sym, subst, List, [], ◌∷◌, length, map, All, Option, Some, None, option_map, option_and_then, IfSome, IsTrue, arith}
+use Rattle.std.proofs.Common.{ℕ, ◌≡◌, ◌+◌, ◌*◌, ◌≤◌, refl, sym, ap, ◌∙◌, subst, Bool, false, List, [], ◌∷◌, length, map, All, Option, Some, None, option_map, option_and_then, IfSome, IsTrue, arith}
 use Rattle.std.specs.Prelude.{sum_by, slice_get}
 use Rattle.std.specs.Option.{unwrap_or}
 use Rattle.std.proofs.lemmas.List.Elements.{All-get_or, All-map, All-weaker}
@@ -8,6 +8,7 @@ use Rattle.std.proofs.lemmas.Option.{get_or_from_slice_get, slice_get_within}
 use Rattle.unit_types.specs.Limits.{content_limit_max, IsShortName}
 use Rattle.unit_types.specs.declared.field.Field.{Field}
 use Rattle.unit_types.specs.declared.message.Addr.{Addr}
+use Rattle.unit_types.specs.declared.message.Reply.{Reply}
 use Rattle.unit_types.specs.declared.message.Request.{Request}
 use Rattle.conf_validate.specs.Configuration.{Configuration, handler_at}
 use Rattle.conf_validate.specs.Forms.{is_rewrite}
@@ -16,6 +17,7 @@ use Rattle.conf_validate.specs.declared.conf.Application.{Application}
 use Rattle.conf_validate.specs.declared.conf.Step.{Step}
 use Rattle.http_front.specs.Bounds.{fields_len, field_len, IsBounded}
 use Rattle.http_front.specs.Message.{Message, request_of}
+use Rattle.http_front.specs.NextUnit.{next_unit, request}
 use Rattle.header_rewrite.specs.Bounds.{HasShortTexts, path_limit, target_limit}
 use Rattle.header_rewrite.specs.Rewrite.{with_rewrite, rewritten_by, rewrite_of_step}
 use Rattle.request_context.specs.Record.{IsRecordable, request_record, field_size, request_record_size, asked_with}
@@ -25,7 +27,11 @@ use Rattle.route_match.specs.declared.target.Target.{Target}
 use Rattle.route_match.specs.declared.target.Target.TheVariants.{App, Return, Status}
 use Rattle.conn_machine.specs.Answers.{Connection, handler_of}
 use Rattle.conn_machine.specs.Asking.{handler_in, asked_of}
-use Rattle.conn_machine.specs.Records.{HasShortRecord, plain_record_limit, rewritten_record_limit}
+use Rattle.conn_machine.specs.Calls.{Account}
+use Rattle.conn_machine.specs.Records.{HasShortRecord, plain_record_limit, record_limit, rewrite_by, rewrite_of, rewritten_record_limit}
+use Rattle.conn_machine.specs.Shows.{Held, Fronts, IsPending, Shows, bound_in}
+use Rattle.conn_machine.specs.States.{Numbered, State, by_bound}
+use Rattle.conn_machine.specs.declared.pending.Pending.{Pending}
 
 -- what a record says of its length, and when it can be written
 abbrev pub TellsLength : Type 0
@@ -160,3 +166,48 @@ rewritten_short c conf stream m tells written path target kept is =
         (name_short conf (outcome_of conf c.listener (request_of c.from c.to m)).target kept) rule in
         subst (λ (o : Option (List ℕ)). HasShortRecord rewritten_record_limit (asked_with stream name (with_rewrite (request_of c.from c.to m) (option_map (λ text. rewritten_by text (request_of c.from c.to m)) o))))
         (sym some) whole
+
+-- ---- what a machine asks
+
+-- the laws of records, for a configuration that is kept
+abbrev pub PlainIsShort : Type 0
+PlainIsShort =
+    (c : Connection) (conf : Configuration) (bytes : List ℕ) (ended : Bool) (m : Message) (used stream : ℕ) → IsKept conf
+    → (next_unit bytes ended conf.max_body).found ≡ request m used
+    → rewrite_of_step conf (last_step_of conf c.listener (request_of c.from c.to m)) ≡ None
+    → HasShortRecord plain_record_limit (asked_of c conf stream (request_of c.from c.to m))
+
+abbrev pub RewrittenIsShort : Type 0
+RewrittenIsShort =
+    (c : Connection) (conf : Configuration) (bytes : List ℕ) (ended : Bool) (m : Message) (used stream : ℕ) → IsKept conf
+    → (next_unit bytes ended conf.max_body).found ≡ request m used
+    → HasShortRecord rewritten_record_limit (asked_of c conf stream (request_of c.from c.to m))
+
+module _ (plain : PlainIsShort) (rewritten : RewrittenIsShort) (c : Connection) (a : Account) (stream : ℕ) (p : Pending) where
+  asked_same : (conf : Configuration) (r : Request) → IsPending c conf p r → asked_of c conf stream r ≡ asked_with stream p.asks.0 p.asks.1
+  unfolding asked_of
+  asked_same conf r is = λ i. asked_with stream (sym is.by.name i) (sym is.by.asked i)
+
+  by_rewrite_short : (conf : Configuration) (bytes : List ℕ) (ended : Bool) (m : Message) (used : ℕ) → IsKept conf
+      → (next_unit bytes ended conf.max_body).found ≡ request m used → (o : Option (List ℕ))
+      → rewrite_of_step conf (last_step_of conf c.listener (request_of c.from c.to m)) ≡ o
+      → HasShortRecord (record_limit o) (asked_of c conf stream (request_of c.from c.to m))
+  by_rewrite_short conf bytes ended m used kept found None none = plain c conf bytes ended m used stream kept found none
+  by_rewrite_short conf bytes ended m used kept found (Some text) some = rewritten c conf bytes ended m used stream kept found
+
+  pub asked_short : (m : Held) (reply_of : List ℕ → Request → Reply) → Shows reply_of c a m → m.closed ≡ false → m.pending ≡ Some p
+      → ((bound : Numbered) → bound_in m ≡ Some bound → IsKept bound.1)
+      → HasShortRecord (record_limit (rewrite_of c a.state)) (asked_with stream p.asks.0 p.asks.1)
+  asked_short m reply_of shows going waits kept =
+      let s = a.state in
+      let front = subst (λ (o : Option Pending). Fronts c s o m.reader) waits (shows.stands.front going) in
+      let conf = front.bound.1 in
+      let r = request_of c.from c.to front.message in
+      let keeps : IsKept conf = kept front.bound (sym (ap (λ (t : State). t.bound) shows.stands.carries.state) ∙ front.bound_is) in
+      let limit_is : rewrite_of c s ≡ rewrite_of_step conf (last_step_of conf c.listener r) =
+      ap (by_bound (rewrite_by c) s) front.bound_is ∙ ap (rewrite_by c conf) front.found in
+      subst (λ (o : Option (List ℕ)). HasShortRecord (record_limit o) (asked_with stream p.asks.0 p.asks.1)) (sym limit_is)
+      (subst (λ (asked : Asked). HasShortRecord (record_limit (rewrite_of_step conf (last_step_of conf c.listener r))) asked)
+      (asked_same conf r front.pending)
+      (by_rewrite_short conf s.unused s.ended front.message front.used keeps front.found
+      (rewrite_of_step conf (last_step_of conf c.listener r)) refl))

@@ -1,22 +1,21 @@
 -- What a machine shows, by what it holds.
-use Rattle.std.proofs.Common.{ℕ, ◌≡◌, ◌≢◌, ◌≤◌, refl, sym, ap, ◌∙◌, subst, List, [], ◌∷◌, ◌++◌, length, drop, Bool, true, false, nat_lt, if◌then◌else◌, Option, Some, None, option_map}
+use Rattle.std.proofs.Common.{ℕ, ◌≡◌, ◌≢◌, refl, sym, ap, ◌∙◌, subst, List, length, drop, Bool, true, false, nat_lt, if◌then◌else◌, Option, Some, None, option_map}
 use Rattle.std.specs.Option.{is_some}
 use Rattle.unit_types.specs.declared.message.Reply.{Reply}
 use Rattle.unit_types.specs.declared.message.Request.{Request}
 use Rattle.conf_validate.specs.Configuration.{Configuration}
 use Rattle.http_front.specs.Kept.{Kept}
 use Rattle.http_front.specs.Message.{request_of}
-use Rattle.http_front.specs.NextUnit.{Found, request, NextUnit, next_unit}
+use Rattle.http_front.specs.NextUnit.{request}
 use Rattle.conn_machine.specs.declared.pending.Pending.{Pending}
-use Rattle.conn_machine.specs.declared.receipt.Kind.{Kind}
 use Rattle.conn_machine.specs.declared.receipt.Need.{Need}
 use Rattle.conn_machine.specs.declared.receipt.Need.TheVariants.{Read, Ask, Write, Close}
 use Rattle.conn_machine.specs.Answers.{Connection}
-use Rattle.conn_machine.specs.Asking.{asked_of, is_app}
-use Rattle.conn_machine.specs.Calls.{Account, ended_at, given_up_with, on_gone, wrote}
-use Rattle.conn_machine.specs.Shows.{Held, bound_in, need_in, asking_in, timeout_by_pending, timeout_in_held, IsAsked, Fronts, IsQuiet, state_in, Carries, Stands, Shows, number_or, ended_with, given_up_as}
+use Rattle.conn_machine.specs.Asking.{asked_of}
+use Rattle.conn_machine.specs.Calls.{Account, wrote}
+use Rattle.conn_machine.specs.Shows.{Held, bound_in, need_in, asking_in, timeout_by_pending, timeout_in_held, IsAsked, Fronts, IsQuiet, state_in, Shows}
 use Rattle.conn_machine.specs.States.{Numbered, State, asked_by, asking_of, asks_by, by_bound, is_ask, need_of, need_under, timeout_by, timeout_of, unit_under}
-use Rattle.conn_machine.specs.Steps.{closed_by, given_up, shown}
+use Rattle.conn_machine.specs.Steps.{shown}
 
 some_none : {A : Type 0} (o : Option A) (x : A) → o ≡ None → o ≢ Some x
 some_none o x first second = absurd (cc (sym first ∙ second))
@@ -40,9 +39,10 @@ asks_pending : (c : Connection) (s : State) (p : Pending) (reader : Kept) (front
 asks_pending c s p reader front = ap (asks_by c front.bound.1) front.found ∙ front.pending.goes
 
 pub front_need : (c : Connection) (s : State) (p : Option Pending) (reader : Kept) → Fronts c s p reader → IsQuiet c s p
-    → (if is_some p then Ask else if is_some s.bound then Read else if s.ended then Close else Read) ≡ need_under c s s.bound
+    → (if is_some s.bound then (if is_some p then Ask else Read) else if s.ended then Close else Read) ≡ need_under c s s.bound
 front_need c s (Some p) reader front quiet =
-    sym (ap (need_under c s) front.bound_is ∙ ap (λ asks. if asks then Ask else Read) (asks_pending c s p reader front))
+    ap (λ (o : Option Numbered). if is_some o then Ask else if s.ended then Close else Read) front.bound_is
+    ∙ sym (ap (need_under c s) front.bound_is ∙ ap (λ asks. if asks then Ask else Read) (asks_pending c s p reader front))
 front_need c s None reader front quiet = by s.bound refl
   where
     by : (o : Option Numbered) → s.bound ≡ o → (if is_some s.bound then Read else if s.ended then Close else Read) ≡ need_under c s s.bound
@@ -51,6 +51,33 @@ front_need c s None reader front quiet = by s.bound refl
     by (Some bound) is =
         ap (λ (o : Option Numbered). if is_some o then Read else if s.ended then Close else Read) is
         ∙ sym (ap (need_under c s) is ∙ ap (λ asks. if asks then Ask else Read) (quiet bound is))
+
+-- it asks only where it is open, and a request is under way and waits
+pub record Asks (m : Held) : Type 0 where
+  pub going : m.closed ≡ false
+  pub way : is_some (bound_in m) ≡ true
+  pub waits : is_some m.pending ≡ true
+
+pub asks_open : (m : Held) → need_in m ≡ Ask → Asks m
+asks_open m asks = by m.given_up (nat_lt 0 (length m.out)) m.closed (is_some (bound_in m)) (is_some m.pending) m.ended refl refl refl asks
+  where
+    by : (up writes shut way waits over : Bool) → m.closed ≡ shut → is_some (bound_in m) ≡ way → is_some m.pending ≡ waits
+        → (if up then Close else if writes then Write else if shut then Close else if way then (if waits then Ask else Read) else if over then Close else Read) ≡ Ask
+        → Asks m
+    by true writes shut way waits over going there some e = absurd (cc e)
+    by false true shut way waits over going there some e = absurd (cc e)
+    by false false true way waits over going there some e = absurd (cc e)
+    by false false false true true over going there some e = record { going = going; way = there; waits = some }
+    by false false false true false over going there some e = absurd (cc e)
+    by false false false false waits true going there some e = absurd (cc e)
+    by false false false false waits false going there some e = absurd (cc e)
+
+pub met_there : (m : Held) → is_some (bound_in m) ≡ true → is_some m.met ≡ true
+met_there m there = by m.is_under_way there
+  where
+    by : (b : Bool) → is_some (if b then m.met else None) ≡ true → is_some m.met ≡ true
+    by true there = there
+    by false there = absurd (cc there)
 
 module _ (reply_of : List ℕ → Request → Reply) (c : Connection) (a : Account) (m : Held) (is : Shows reply_of c a m) where
   abbrev state : State
@@ -73,21 +100,6 @@ module _ (reply_of : List ℕ → Request → Reply) (c : Connection) (a : Accou
 
   pub need_shown : need_in m ≡ need_of c a.state
   need_shown = need_held ∙ sym (ap (need_of c) same)
-
-  -- it asks only where it is open and a request waits
-  asks_open : need_in m ≡ Ask → (m.closed ≡ false) × (is_some m.pending ≡ true)
-  asks_open asks = by m.given_up (nat_lt 0 (length m.out)) m.closed (is_some m.pending) (is_some (bound_in m)) m.ended asks
-    where
-      by : (up writes shut waits way over : Bool)
-          → (if up then Close else if writes then Write else if shut then Close else if waits then Ask else if way then Read else if over then Close else Read) ≡ Ask
-          → (shut ≡ false) × (waits ≡ true)
-      by true writes shut waits way over e = absurd (cc e)
-      by false true shut waits way over e = absurd (cc e)
-      by false false true waits way over e = absurd (cc e)
-      by false false false true way over e = (refl, refl)
-      by false false false false true over e = absurd (cc e)
-      by false false false false false true e = absurd (cc e)
-      by false false false false false false e = absurd (cc e)
 
   is_ask_is : (need : Need) → is_ask need ≡ true → need ≡ Ask
   is_ask_is Ask e = refl
@@ -112,7 +124,7 @@ module _ (reply_of : List ℕ → Request → Reply) (c : Connection) (a : Accou
   pub asking_shown : asking_in m ≡ asking_of c a.state
   asking_shown =
       then_alike (is_ask (need_in m)) (option_map (λ (q : Pending). q.asks) m.pending) (by_bound (asked_by c) state state.bound) None (λ asks.
-      let going = asks_open (is_ask_is (need_in m) asks) in asked_front m.pending going.1 (front_now going.0))
+      let at = asks_open m (is_ask_is (need_in m) asks) in asked_front m.pending at.waits (front_now at.going))
       ∙ ap (λ need. if is_ask need then by_bound (asked_by c) state state.bound else None) need_held
       ∙ sym (ap (asking_of c) same)
 
@@ -125,7 +137,7 @@ module _ (reply_of : List ℕ → Request → Reply) (c : Connection) (a : Accou
   pub timeout_shown : timeout_in_held m ≡ timeout_of c a.state
   timeout_shown =
       then_alike (is_ask (need_in m)) (timeout_by_pending m.pending) (by_bound (timeout_by c) state state.bound) None (λ asks.
-      let going = asks_open (is_ask_is (need_in m) asks) in timeout_front m.pending going.1 (front_now going.0))
+      let at = asks_open m (is_ask_is (need_in m) asks) in timeout_front m.pending at.waits (front_now at.going))
       ∙ ap (λ need. if is_ask need then by_bound (timeout_by c) state state.bound else None) need_held
       ∙ sym (ap (timeout_of c) same)
 

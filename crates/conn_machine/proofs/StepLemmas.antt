@@ -1,5 +1,5 @@
 -- Each step of a connection keeps that its state follows what came and went.
-use Rattle.std.proofs.Common.{ℕ, ◌≡◌, ◌≢◌, ◌-◌, ◌≤◌, refl, sym, ap, ◌∙◌, subst, List, [], ◌∷◌, ◌++◌, length, drop, Bool, true, false, not, ◌&&◌, ◌||◌, nat_le, if◌then◌else◌, Option, Some, None, slice_get, append_assoc, append-nil}
+use Rattle.std.proofs.Common.{ℕ, ◌≡◌, ◌≢◌, ◌-◌, ◌≤◌, refl, sym, ap, ◌∙◌, subst, List, [], ◌∷◌, ◌++◌, drop, Bool, true, false, not, ◌&&◌, ◌||◌, nat_le, if◌then◌else◌, Option, Some, None, slice_get, append_assoc, append-nil}
 use Rattle.std.specs.Option.{is_some}
 use Rattle.std.proofs.lemmas.Bool.{le-leb}
 use Rattle.std.proofs.lemmas.List.{drop-append-le}
@@ -7,18 +7,18 @@ use Rattle.unit_types.specs.declared.message.Reply.{Reply}
 use Rattle.unit_types.specs.declared.message.Request.{Request}
 use Rattle.conf_validate.specs.Configuration.{Configuration}
 use Rattle.http_front.specs.Front.{head_begun}
-use Rattle.http_front.specs.NextUnit.{NextUnit, next_unit}
+use Rattle.http_front.specs.NextUnit.{next_unit}
 use Rattle.http_front.specs.Session.{request_limit}
 use Rattle.http_front.specs.Written.{continue_bytes, http_bytes}
 use Rattle.conn_machine.specs.declared.receipt.Receipt.{Receipt}
 use Rattle.conn_machine.specs.Answers.{Connection, closes, is_to_head, reply_line}
-use Rattle.conn_machine.specs.Sessions.{Course, behind, closed_course, stands, under_way, unanswered, unbegun, turn_course, unit_course, course_from, course_of}
-use Rattle.conn_machine.specs.States.{Numbered, State, unit_under, Given, Agrees, Told, GoesOn, Fits, course_left, is_due, Waits, Follows}
+use Rattle.conn_machine.specs.Sessions.{Course, behind, closed_course, stands, under_way, turn_course, course_from, course_of}
+use Rattle.conn_machine.specs.States.{Numbered, State, unit_under, Agrees, Told, GoesOn, Fits, course_left, is_due, Waits, Follows}
 use Rattle.conn_machine.specs.Steps.{nothing, begin, fed, at_end, taken_up, replied, closed_by, given_up, shown}
 use Rattle.conn_machine.specs.Turns.{Turn, replies, ends, unfit, turn_of, ends_between}
-use Rattle.conn_machine.proofs.CourseLemmas.{behind_nothing, behind_both, behind_written, course_there, course_between, course_begun, due_once}
+use Rattle.conn_machine.proofs.CourseLemmas.{behind_nothing, behind_written, course_there, course_between, course_begun, due_once}
 use Rattle.conn_machine.proofs.TurnLemmas.{turn_goes, turn_within}
-use Rattle.conn_machine.proofs.UnitLaws.{UnitLaws, unit_goes, due_goes}
+use Rattle.conn_machine.proofs.UnitLaws.{UnitLaws, due_goes}
 
 -- ---- where it begins
 

@@ -1,5 +1,5 @@
 -- Where no step rewrites or changes anything, each request is answered as it came.
-use Rattle.std.proofs.Common.{◌≡◌, ℕ, zero, suc, nat_lt, List, [], ◌∷◌, Option, Some, None, All, refl, sym, ap, ◌∙◌, if◌then◌else◌}
+use Rattle.std.proofs.Common.{◌≡◌, ℕ, zero, suc, nat_lt, List, [], ◌∷◌, Option, Some, None, All, refl, ap, ◌∙◌, if◌then◌else◌}
 use Rattle.std.proofs.lemmas.List.Elements.{All-head, All-tail}
 use Rattle.std.specs.List.{slice_get}
 use Rattle.std.specs.Option.{option_and_then}
@@ -8,8 +8,8 @@ use Rattle.unit_types.specs.declared.message.Request.{Request}
 use Rattle.conf_validate.specs.declared.conf.Step.{Step}
 use Rattle.conf_validate.specs.Configuration.{Configuration, changes_at}
 use Rattle.conf_validate.specs.Plain.{ChangesNothing}
-use Rattle.header_rewrite.specs.ResponseHeaders.{all_changed, changes_of_step, fielded_of}
-use Rattle.header_rewrite.specs.Rewrite.{rewrite_of_step, rewritten_by, rewritten_of, with_rewrite}
+use Rattle.header_rewrite.specs.ResponseHeaders.{all_changed, fielded_of}
+use Rattle.header_rewrite.specs.Rewrite.{rewritten_by, rewritten_of, with_rewrite}
 use Rattle.std.specs.Option.{option_map}
 use Rattle.route_match.specs.Plain.{plain_location_of, plain_target_of}
 use Rattle.route_match.specs.Target.{location_of, outcome_of, target_of}
@@ -17,7 +17,7 @@ use Rattle.route_match.specs.declared.target.Target.{Target}
 use Rattle.route_match.specs.declared.target.Target.TheVariants.{App, Return, Status}
 use Rattle.http_front.specs.Written.{error_reply}
 use Rattle.conn_machine.specs.Answers.{Connection, handler_of, location_fields, return_reply, reply_by, reply_to}
-use Rattle.conn_machine.specs.Unchanged.{unchanged_reply_by, unchanged_reply_to, plain_return_reply, plain_reply_by, plain_reply_to}
+use Rattle.conn_machine.specs.Unchanged.{unchanged_reply_by, unchanged_reply_to, plain_reply_by, plain_reply_to}
 
 no_rewrite : (steps : List Step) (index : ℕ) → All ChangesNothing steps → option_and_then (λ s. s.rewrite) (slice_get steps index) ≡ None
 no_rewrite [] index none = refl

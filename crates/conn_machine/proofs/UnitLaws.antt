@@ -1,8 +1,8 @@
 -- What stands at the front of bytes that go on, by the laws of the reader.
-use Rattle.std.proofs.Common.{ℕ, ◌≡◌, ◌≢◌, ◌<◌, ◌≤◌, refl, sym, ap, ◌∙◌, List, [], ◌++◌, length, Bool, true, false, append-nil}
+use Rattle.std.proofs.Common.{ℕ, ◌≡◌, ◌≢◌, ◌<◌, ◌≤◌, refl, ap, ◌∙◌, List, [], ◌++◌, length, Bool, true, false, append-nil}
 use Rattle.http_front.specs.Front.{head_begun}
 use Rattle.http_front.specs.Message.{Message}
-use Rattle.http_front.specs.NextUnit.{Found, request, finished, wait, NextUnit, next_unit}
+use Rattle.http_front.specs.NextUnit.{request, finished, wait, NextUnit, next_unit}
 
 -- the laws that are used here
 pub record UnitLaws : Type 0 where

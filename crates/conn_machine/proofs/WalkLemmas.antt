@@ -1,20 +1,18 @@
 -- What every course says of its receipts, and that a longer list of configurations leaves it.
-use Rattle.std.proofs.Common.{ℕ, zero, suc, ◌≡◌, ◌+◌, ◌-◌, ◌≤◌, arith, refl, sym, ap, ◌∙◌, subst, List, [], ◌∷◌, ◌++◌, length, drop, Bool, true, false, not, ◌&&◌, ◌||◌, ◌==◌, nat_le, if◌then◌else◌, Option, Some, None, option_map, option_and_then, slice_get}
+use Rattle.std.proofs.Common.{ℕ, zero, suc, ◌≡◌, ◌-◌, ◌≤◌, arith, refl, sym, ap, ◌∙◌, subst, List, [], ◌∷◌, ◌++◌, length, drop, Bool, true, false, not, ◌&&◌, ◌||◌, ◌==◌, nat_le, if◌then◌else◌, Option, Some, None, option_map, option_and_then, slice_get}
 use Rattle.std.proofs.lemmas.Bool.{leb-true}
 use Rattle.std.proofs.lemmas.Bool.Decides.{Decides-eqb}
-use Rattle.unit_types.specs.declared.message.Reply.{Reply}
 use Rattle.unit_types.specs.declared.message.Request.{Request}
 use Rattle.conf_validate.specs.Configuration.{Configuration}
 use Rattle.http_front.specs.Front.{head_begun}
 use Rattle.http_front.specs.Message.{is_last_request}
-use Rattle.http_front.specs.NextUnit.{NextUnit, next_unit}
+use Rattle.http_front.specs.NextUnit.{next_unit}
 use Rattle.http_front.specs.Session.{Session, request_limit}
 use Rattle.http_front.specs.Written.{continue_bytes, http_bytes}
-use Rattle.conn_machine.specs.declared.receipt.Kind.{Kind}
 use Rattle.conn_machine.specs.declared.receipt.Receipt.{Receipt}
 use Rattle.conn_machine.specs.Answers.{Connection, closes, is_to_head, reply_line}
 use Rattle.conn_machine.specs.Laws.{NeverFall}
-use Rattle.conn_machine.specs.Sessions.{Course, Mark, behind, closed_course, unanswered, unbegun, turn_course, unit_course, receipt_course, course_from, course_of, session_in, session_of, log_lines_of}
+use Rattle.conn_machine.specs.Sessions.{Course, behind, closed_course, unanswered, unbegun, turn_course, unit_course, receipt_course, course_from, course_of, session_in, session_of, log_lines_of}
 use Rattle.conn_machine.specs.Turns.{Turn, replies, ends, unfit, turn_of, ends_between}
 
 -- ---- a walk that comes to the same wherever another one comes to something

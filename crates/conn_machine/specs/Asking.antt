@@ -1,5 +1,5 @@
 -- What a handler is asked for a request.
-use Rattle.std.specs.Prelude.{ℕ, ◌==◌, Bool, true, false, ◌&&◌, List, [], Option, Some, None, bytes_eq}
+use Rattle.std.specs.Prelude.{ℕ, ◌==◌, Bool, true, false, ◌&&◌, List, [], Option, None, bytes_eq}
 use Rattle.std.specs.Cmp.Lexicographic.{pointwise}
 use Rattle.unit_types.specs.declared.field.Field.{Field}
 use Rattle.unit_types.specs.declared.message.Addr.{Addr}
@@ -7,7 +7,7 @@ use Rattle.unit_types.specs.declared.message.Request.{Request}
 use Rattle.request_context.specs.Record.{asked_with}
 use Rattle.request_context.specs.declared.asked.Asked.{Asked}
 use Rattle.conf_validate.specs.Configuration.{Configuration}
-use Rattle.route_match.specs.Target.{outcome_of, target_of, last_step_of}
+use Rattle.route_match.specs.Target.{outcome_of}
 use Rattle.route_match.specs.declared.target.Target.{Target}
 use Rattle.route_match.specs.declared.target.Target.TheVariants.{App, Return, Status}
 use Rattle.header_rewrite.specs.Rewrite.{rewritten_of}

@@ -1,8 +1,7 @@
 -- The calls on a connection, as steps from what was told and where it stands to what is told and where it stands then.
-use Rattle.std.specs.Prelude.{◌≡◌, ℕ, zero, suc, ◌≤◌, Bool, true, false, List, [], ◌∷◌, ◌++◌, take, drop, Option, Some, None, if◌then◌else◌}
+use Rattle.std.specs.Prelude.{◌≡◌, ℕ, zero, suc, ◌≤◌, false, List, take, drop, Option, Some, None, if◌then◌else◌}
 use Rattle.unit_types.specs.declared.message.Reply.{Reply}
 use Rattle.unit_types.specs.declared.message.Request.{Request}
-use Rattle.conf_validate.specs.Configuration.{Configuration}
 use Rattle.route_match.specs.Target.{target_of}
 use Rattle.http_front.specs.Front.{head_begun}
 use Rattle.http_front.specs.Message.{request_of}

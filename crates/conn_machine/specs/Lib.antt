@@ -3,7 +3,9 @@ pub mod Asking
 pub mod Calls
 pub mod Laws
 pub mod Records
+pub mod Replying
 pub mod Sessions
+pub mod Settling
 pub mod Shows
 pub mod States
 pub mod Steps

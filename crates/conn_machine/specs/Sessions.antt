@@ -1,7 +1,5 @@
 -- What a connection writes, by its bytes and by how each of its requests ended (RFC 9112, section 9.3.2).
-use Rattle.std.specs.Prelude.{ℕ, ◌-◌, ◌==◌, nat_le, Bool, true, false, not, ◌&&◌, List, [], ◌∷◌, ◌++◌, length, drop, Option, Some, None, option_map, option_and_then, slice_get, if◌then◌else◌}
-use Rattle.unit_types.specs.declared.message.Reply.{Reply}
-use Rattle.unit_types.specs.declared.message.Request.{Request}
+use Rattle.std.specs.Prelude.{ℕ, ◌-◌, nat_le, Bool, true, false, not, ◌&&◌, List, [], ◌∷◌, ◌++◌, drop, Option, Some, None, option_map, option_and_then, slice_get, if◌then◌else◌}
 use Rattle.conf_validate.specs.Configuration.{Configuration}
 use Rattle.http_front.specs.Front.{head_begun}
 use Rattle.http_front.specs.NextUnit.{NextUnit, next_unit}

@@ -67,8 +67,7 @@ need_in m =
     if m.given_up then Close
     else if nat_lt 0 (length m.out) then Write
     else if m.closed then Close
-    else if is_some m.pending then Ask
-    else if is_some (bound_in m) then Read
+    else if is_some (bound_in m) then (if is_some m.pending then Ask else Read)
     else if m.ended then Close
     else Read
 

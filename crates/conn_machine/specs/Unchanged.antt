@@ -1,5 +1,5 @@
 -- The replies of a configuration whose steps rewrite and change nothing, and of one that has no variables either.
-use Rattle.std.specs.Prelude.{ℕ, nat_lt, List, [], if◌then◌else◌}
+use Rattle.std.specs.Prelude.{ℕ, nat_lt, [], if◌then◌else◌}
 use Rattle.unit_types.specs.declared.message.Reply.{Reply}
 use Rattle.unit_types.specs.declared.message.Request.{Request}
 use Rattle.conf_validate.specs.Configuration.{Configuration}

@@ -2,14 +2,19 @@
 #![tactic(auto)]
 
 mod answers;
+mod calls;
 mod ending;
 mod laws;
 mod machine;
+#[cfg(test)]
+mod machine_tests;
 mod met;
 mod pending;
 mod queries;
 mod receipt;
 pub mod records;
+mod replying;
+mod settling;
 #[cfg(test)]
 mod tests;
 

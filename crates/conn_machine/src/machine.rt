@@ -130,6 +130,7 @@ impl<H: Handlers> Machine<H> {
 
     /// What is left in the end: the receipts of the requests, and the lines of the log. It takes no memory.
     pub fn close(self) -> (Receipts, Bytes)
+        ensures value { result ≡ (self.receipts, self.lines) }
         ensures receipts { (c : Connection) (a : Account) → Shows H.reply_of c a self
             → result.0 ≡ a.told.receipts }
         ensures lines { (c : Connection) (a : Account) → Shows H.reply_of c a self

@@ -1,13 +1,17 @@
 //! What a machine shows.
-ghost use Rattle.std.specs.Prelude.{◌≡◌, ◌≤◌, drop, length, option_map};
+ghost use Rattle.std.specs.Prelude.{◌≡◌, ◌≤◌, ℕ, Some, IfSome, drop, length, option_map};
+ghost use Rattle.conf_validate.specs.Kept.{IsKept};
+ghost use Rattle.request_context.specs.Record.{asked_with};
 ghost use Rattle.conn_machine.specs.Answers.{Connection};
 ghost use Rattle.conn_machine.specs.Calls.{Account, wrote};
+ghost use Rattle.conn_machine.specs.Records.{HasShortRecord, record_limit, rewrite_of};
 ghost use Rattle.conn_machine.specs.Shows.{Shows, asking_in, bound_in, need_in, timeout_in_held};
-ghost use Rattle.conn_machine.specs.States.{asking_of, need_of, timeout_of};
+ghost use Rattle.conn_machine.specs.States.{Numbered, asking_of, need_of, timeout_of};
 
 use crate::machine::Machine;
 use crate::met::Met;
 use crate::receipt::Need;
+use crate::records::laws_of_records;
 use unit_types::{Bytes, Handlers, Request};
 
 impl<H: Handlers> Machine<H> {
@@ -23,10 +27,12 @@ impl<H: Handlers> Machine<H> {
             Need::Write
         } else if self.closed {
             Need::Close
-        } else if self.pending.is_some() {
-            Need::Ask
         } else if self.bound().is_some() {
-            Need::Read
+            if self.pending.is_some() {
+                Need::Ask
+            } else {
+                Need::Read
+            }
         } else if self.ended {
             Need::Close
         } else {
@@ -45,12 +51,31 @@ impl<H: Handlers> Machine<H> {
         }
     }
 
+    // what the configuration of the request under way keeps, as a fact of its value; it does nothing
+    fn is_kept(&self)
+        ensures { (bound : Numbered) → bound_in self.now ≡ Some bound → IsKept bound.1 }
+    {
+        let Some(met) = self.bound() else {
+            return;
+        };
+        met.conf().is_kept();
+    }
+
     /// The name of the handler that is asked, and the request as it is asked, where a reply is needed.
+    ///
+    /// Under any stream its record can be written. It has at most 10,350,000 bytes, and at most 10,065,536 where its step
+    /// has no `rewrite`.
     pub fn asking(&self) -> Option<&(Bytes, Request)>
         ensures value { option_map (λ asked. asked.now) result ≡ asking_in self.now }
         ensures asking { (c : Connection) (a : Account) → Shows H.reply_of c a self.now
             → asking_in self.now ≡ asking_of c a.state }
+        ensures short { IfSome result (λ asked. (c : Connection) (a : Account) (stream : ℕ)
+            → Shows H.reply_of c a self.now → HasShortRecord
+            (record_limit (rewrite_of c a.state)) (asked_with stream asked.now.0 asked.now.1)) }
     {
+        // Its record is short, since its configuration is a valid one.
+        laws_of_records();
+        self.is_kept();
         match self.need() {
             Need::Ask => match &self.pending {
                 Some(pending) => Some(&pending.asks),
