@@ -1,7 +1,7 @@
 -- What a step leaves of the parcels of messages, and of items that are kept.
 use Rattle.unit_types.specs.declared.message.Reply.{Reply}
 use Rattle.unit_types.specs.declared.message.Request.{Request}
-use Rattle.std.proofs.Common.{ℕ, ◌+◌, ◌^◌, ◌≡◌, ◌≢◌, ◌≤◌, ◌<◌, inl, inr, List, length, refl, sym, ap, ◌∙◌, subst, arith}
+use Rattle.std.proofs.Common.{ℕ, ◌+◌, ◌≡◌, ◌≢◌, ◌<◌, List, sym, ap, ◌∙◌, subst, arith}
 use Rattle.std.specs.Prelude.{Option}
 use mathlib.Core.Option.{some}
 use lib.ListN.{get_elem?}
@@ -14,17 +14,29 @@ use Rattle.unit_model.specs.Runs.{chunks_for}
 use Rattle.unit_model.specs.declared.machine.Item.{Item}
 use Rattle.unit_model.specs.declared.runs.Run.{Run}
 use Rattle.unit_model.specs.declared.shape.Shape.{Shape}
-use Rattle.fabric_words.specs.Places.{HasItem}
-use Rattle.fabric_rule.specs.Contents.{Carries, OfRequest, OfReply, IsFilled, IsReplyPart, IsRequest}
-use Rattle.fabric_rule.specs.FrameLaws.{FilledStayLaw, KeptStayLaw}
+use Rattle.fabric_words.specs.Places.{HasItem, queues_of}
+use Rattle.fabric_rule.specs.Contents.{Carries, OfRequest, OfReply, IsFilled, IsReplyPart}
+use Rattle.fabric_rule.specs.FrameLaws.{FilledStayLaw, KeptStayLaw, StaysUntagged}
 use Rattle.fabric_rule.specs.Parts.{IsWornOut}
+use Rattle.unit_model.specs.declared.machine.Core.{Core}
+use Rattle.fabric_rule.specs.declared.view.FabricView.{FabricView}
 use Rattle.fabric_rule.specs.declared.view.KeptItem.{KeptItem}
-use Rattle.fabric_rule.proofs.Sums.{each_gives}
+use Rattle.fabric_rule.proofs.Sums.{each_all, each_both}
 
 pub kept_stay : KeptStayLaw
-kept_stay shape ring ring' v u tails kept old =
-    subst (λ (l : List KeptItem). Each (IsWornOut shape ring') l) (sym kept)
-    (each_gives (IsWornOut shape ring) (IsWornOut shape ring') v.kept (λ k is. record { there = is.there; worn = omega (arith, is.worn, tails k.queue is.there) }) old)
+kept_stay core core' ring ring' v u shape tails untagged kept old =
+    subst (λ (l : List KeptItem). Each (IsWornOut core' ring') l) (sym kept)
+    (each_both (IsWornOut core ring) (StaysUntagged core core') (IsWornOut core' ring') v.kept
+    (λ k is stays. record {
+      there = subst (λ (s : Shape). k.queue < queues_of s) (sym shape) is.there;
+      worn = omega (arith, is.worn, tails k.queue is.there);
+      untagged = stays is.untagged;
+    })
+    old untagged)
+
+-- where no item gets a tag
+pub kept_untagged : (core core' : Core) → ((queue item : ℕ) → (item_of core queue item).tag ≡ 0 → (item_of core' queue item).tag ≡ 0) → (v : FabricView) → Each (StaysUntagged core core') v.kept
+kept_untagged core core' stays v = each_all (StaysUntagged core core') v.kept (λ k. stays k.queue k.item)
 
 module _ {H : Type 0} (reply_of : List ℕ → Request → Reply) (records records' : ℕ → List ℕ) (homes homes' : List (mathlib.Core.Option.Option (Option (Parcel H)))) where
   carries_same : (queue tag tag' part part' : ℕ) (parcels : List (Parcel H)) → tag' ≡ tag → part' ≡ part → records' tag ≡ records tag → Carries reply_of records queue tag part parcels → Carries reply_of records' queue tag' part' parcels

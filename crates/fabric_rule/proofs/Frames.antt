@@ -1,29 +1,38 @@
 -- What a step leaves of the parts of the rule.
 use Rattle.unit_model.specs.declared.machine.Owner.{Owner}
-use Rattle.std.proofs.Common.{ℕ, ◌+◌, ◌*◌, ◌≡◌, ◌≢◌, ◌≤◌, ◌<◌, ◌⊎◌, inl, inr, ⊎_elim, cond, ◌==◌, List, [], ◌∷◌, set, refl, sym, ap, ◌∙◌, subst, arith}
+use Rattle.std.proofs.Common.{ℕ, ◌+◌, ◌*◌, ◌≡◌, ◌≢◌, ◌≤◌, ◌<◌, ◌⊎◌, inl, inr, ⊎_elim, set, sym, ap, ◌∙◌, subst, arith}
 use Rattle.std.proofs.lemmas.Bool.{cases_eq}
 use Rattle.std.specs.List.{range_with_len}
-use mathlib.Core.Option.{some}
-use lib.ListN.{get_elem?}
 use Rattle.atomic_table.proofs.Lists.{at_set}
-use Rattle.unit_model.specs.Core.{no_seat, item_of, owner_of, role_of, seat_of}
+use Rattle.unit_model.specs.Core.{item_of, owner_of}
 use Rattle.unit_model.specs.Holding.{items_of}
 use Rattle.unit_model.specs.Limits.{segment_chunks}
+use Rattle.unit_model.specs.Shapes.{role_in}
 use Rattle.unit_model.specs.Weights.{weigh, below}
-use Rattle.unit_model.specs.declared.machine.Core.{Core}
 use Rattle.unit_model.specs.declared.machine.Whereabouts.{Whereabouts}
 use Rattle.unit_model.specs.declared.shape.Shape.{Shape}
 use Rattle.unit_model.proofs.Views.{sum_set}
 use Rattle.unit_model.proofs.Weights.{below_change, below_same}
 use Rattle.fabric_words.specs.Places.{queues_of, segments_of}
-use Rattle.fabric_rule.specs.FrameLaws.{ItemsStayLaw, ItemMovesLaw, ChunksStayLaw, ChunksMoveLaw, OfEachLaw}
-use Rattle.fabric_rule.specs.Parts.{OfEach, hand_weight, owner_weight}
+use Rattle.fabric_rule.specs.FrameLaws.{ItemsStayLaw, ItemMovesLaw, ChunksStayLaw, ChunksMoveLaw, OfEachLaw, OfFabricStayLaw}
+use Rattle.fabric_rule.specs.Parts.{IsOfFabric, hand_weight, owner_weight}
 use Rattle.fabric_rule.specs.Views.{hand_at, chunks_at}
 use Rattle.fabric_rule.specs.declared.view.FabricView.{FabricView}
 use Rattle.fabric_rule.proofs.Sums.{range_changes, sum_stays}
 
 pub of_each : (P P' : FabricView → Type 0) → OfEachLaw P P'
 of_each P P' views id u mine others old k y at = ⊎_elim (λ t. subst P' t.1 mine) (λ t. others y (old k y t.1)) (at_set views id k u y at)
+
+pub of_fabric : OfFabricStayLaw
+of_fabric core core' views id v u at shape same seat old =
+    of_each (IsOfFabric core) (IsOfFabric core') views id u
+    (let mine = old id v at in
+    record {
+      shape = same ∙ mine.shape ∙ sym shape;
+      role = subst (λ (s : Shape). role_in s u.seat ≤ 1) (sym shape) (subst (λ (k : ℕ). role_in core.shape k ≤ 1) (sym seat) mine.role);
+    })
+    (λ y is. record { shape = is.shape ∙ sym shape; role = subst (λ (s : Shape). role_in s y.seat ≤ 1) (sym shape) is.role })
+    old
 
 -- ---- items
 

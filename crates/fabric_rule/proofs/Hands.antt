@@ -1,20 +1,28 @@
 -- Items in hand.
-use Rattle.std.proofs.Common.{ℕ, ◌+◌, ◌≡◌, ◌≢◌, ◌≤◌, ◌<◌, ◌⊎◌, ◌==◌, inl, inr, ⊎_elim, Bool, true, false, cond, List, refl, sym, ap, ◌∙◌, subst, arith}
-use Rattle.std.proofs.lemmas.Bool.{cases_eq, eq-eqb, ne_eqb}
+use Rattle.std.proofs.Common.{ℕ, ◌+◌, ◌≡◌, ◌≢◌, ◌≤◌, ◌<◌, ◌⊎◌, ◌*◌, ◌==◌, inl, inr, ⊎_elim, Bool, true, false, cond, List, [], ◌∷◌, refl, sym, ap, subst, arith}
+use Rattle.std.proofs.lemmas.Bool.{cases_eq, cases_lt, eq-eqb, ne_eqb}
 use mathlib.Core.Option.{some}
 use lib.ListN.{get_elem?}
-use Rattle.unit_model.specs.Core.{item_of}
+use Rattle.unit_model.specs.Core.{item_of, owner_of}
 use Rattle.unit_model.specs.Holding.{items_of}
-use Rattle.unit_model.specs.Weights.{weigh, below, is_number}
+use Rattle.unit_model.specs.Weights.{weigh, below, is_number, times}
 use Rattle.unit_model.specs.declared.machine.Core.{Core}
 use Rattle.unit_model.specs.declared.machine.Whereabouts.{Whereabouts}
 use Rattle.unit_model.specs.declared.machine.Whereabouts.TheVariants.{InFreeList, InLine, WithSeat}
 use Rattle.unit_model.proofs.Views.{sum_at}
-use Rattle.unit_model.proofs.Weights.{below-sum, below_none, below_same, is_number_other, weigh-sum}
-use Rattle.fabric_rule.specs.Hands.{HandsOwnedLaw, InHandLaw, away_weight}
-use Rattle.fabric_rule.specs.Parts.{hand_weight}
-use Rattle.fabric_rule.specs.Views.{hand_at, held_at, kept_at}
+use Rattle.unit_model.proofs.Weights.{below-sum, below_is, below_le, below_none, below_same, is_number_other, is_number_same, weigh-sum}
+use Rattle.unit_model.proofs.Sharing.{owned_below, owned_here}
+use Rattle.unit_model.specs.Limits.{segment_chunks}
+use Rattle.unit_model.specs.PartOrder.{Each}
+use Rattle.unit_model.specs.Sharing.{Holds, Owned}
+use Rattle.unit_model.specs.declared.machine.Owner.{Owner}
+use Rattle.unit_model.specs.declared.machine.Owner.TheVariants.{Free as Unowned, Seat as OfSeat, Message as OfMessage}
+use Rattle.fabric_words.specs.Places.{queues_of, segments_of}
+use Rattle.fabric_rule.specs.Hands.{ChunkInHandLaw, HandsOwnedLaw, InHandLaw, away_weight, items_elsewhere}
+use Rattle.fabric_rule.specs.Parts.{ItemsHeld, hand_weight, owner_weight}
+use Rattle.fabric_rule.specs.Views.{chunks_at, hand_at, held_at, kept_at}
 use Rattle.fabric_rule.specs.declared.view.FabricView.{FabricView}
+use Rattle.fabric_rule.specs.declared.view.KeptItem.{KeptItem}
 
 -- the weight of one item with one seat
 abbrev one_hand : ℕ → ℕ → ℕ → ℕ → ℕ
@@ -67,3 +75,84 @@ hands_owned core views held queue lt f =
     let both : below (λ item. away item + hand item) n ≡ below f n = below_same (λ item. away item + hand item) f n (λ item below_n. either_place f (item_of core queue item).whereabouts item) in
     let parts : weigh (hand_at queue (λ seat. f)) views ≡ weigh (held_at queue f) views + weigh (kept_at queue (λ seat. f)) views = weigh-sum (held_at queue f) (kept_at queue (λ seat. f)) views in
     omega (arith, held queue lt (λ seat. f), parts, below-sum away hand n, both)
+
+-- ---- what is kept isn't in hand
+
+kept_apart : (queue item : ℕ) (kept : List KeptItem) → weigh (λ (h : KeptItem). cond (h.queue == queue) (is_number item h.item) 0) kept ≡ 0 → Each (λ (h : KeptItem). (h.queue ≢ queue) ⊎ (h.item ≢ item)) kept
+kept_apart queue item [] none = tt
+kept_apart queue item (h ∷ hs) none =
+    let first : cond {A = ℕ} (h.queue == queue) (is_number item h.item) 0 ≡ 0 = omega (arith, none) in (
+      elim (cases_eq h.queue queue) [
+        | inl same ↦ elim (cases_eq h.item item) [
+          | inl is ↦ absurd (omega (arith, first, ap (λ (b : Bool). cond {A = ℕ} b (is_number item h.item) 0) (eq-eqb h.queue queue same), ap (is_number item) is, is_number_same item))
+          | inr ne ↦ inr ne
+        ]
+        | inr ne ↦ inl ne
+      ],
+      kept_apart queue item hs (omega (arith, none)),
+    )
+
+-- an item that one view has in hand is kept by none
+pub none_keeps : (core : Core) (views : List FabricView) (id : ℕ) (v : FabricView) → get_elem? views id ≡ some v → ItemsHeld core views → (queue item : ℕ) → queue < queues_of core.shape → Holds (held_at queue) item v
+    → (k : ℕ) (y : FabricView) → get_elem? views k ≡ some y → Each (λ (h : KeptItem). (h.queue ≢ queue) ⊎ (h.item ≢ item)) y.kept
+none_keeps core views id v at held queue item lt mine k y there =
+    let owned : Owned (held_at queue) (items_elsewhere core views queue) (items_of core.shape queue) views = hands_owned core views held queue lt in
+    let below_n : item < items_of core.shape queue = owned_below (held_at queue) (items_elsewhere core views queue) (items_of core.shape queue) views id v at item mine owned in
+    let nowhere : items_elsewhere core views queue (is_number item) ≡ 0 = owned_here (held_at queue) (items_elsewhere core views queue) (items_of core.shape queue) views id v at item below_n mine owned in
+    kept_apart queue item y.kept (omega (arith, nowhere, sum_at (kept_at queue (λ seat. is_number item)) views k y there))
+
+-- ---- chunks
+
+-- the weight of one chunk with one seat
+abbrev one_chunk : ℕ → ℕ → ℕ → ℕ → ℕ
+one_chunk seat chunk k other = cond (k == seat) (is_number chunk other) 0
+
+owned_or_none : (seat chunk : ℕ) (o : Owner) → (o ≡ OfSeat seat) ⊎ (owner_weight (one_chunk seat chunk) o chunk ≡ 0)
+owned_or_none seat chunk Unowned = inr refl
+owned_or_none seat chunk (OfMessage queue item) = inr refl
+owned_or_none seat chunk (OfSeat k) =
+    elim (cases_eq k seat) [
+      | inl is ↦ inl (ap OfSeat is)
+      | inr ne ↦ inr (ap (λ (b : Bool). cond {A = ℕ} b (is_number chunk chunk) 0) (ne_eqb k seat ne))
+    ]
+
+none_of_other_chunks : (seat chunk other : ℕ) (o : Owner) → other ≢ chunk → owner_weight (one_chunk seat chunk) o other ≡ 0
+none_of_other_chunks seat chunk other Unowned ne = refl
+none_of_other_chunks seat chunk other (OfMessage queue item) ne = refl
+none_of_other_chunks seat chunk other (OfSeat k) ne = nothing_of (k == seat) (is_number chunk other) (is_number_other chunk other ne)
+
+at_most_number : (seat chunk other : ℕ) (o : Owner) → owner_weight (one_chunk seat chunk) o other ≤ is_number chunk other
+at_most_number seat chunk other Unowned = omega arith
+at_most_number seat chunk other (OfMessage queue item) = omega arith
+at_most_number seat chunk other (OfSeat k) = chosen_or_none (k == seat) (is_number chunk other)
+  where
+    chosen_or_none : (b : Bool) (n : ℕ) → cond {A = ℕ} b n 0 ≤ n
+    chosen_or_none true n = omega arith
+    chosen_or_none false n = omega arith
+
+pub chunk_in_hand : ChunkInHandLaw
+chunk_in_hand core views id v at held chunk mine =
+    let f : ℕ → ℕ → ℕ = one_chunk v.seat chunk in
+    let n : ℕ = segment_chunks * segments_of core.shape in
+    let terms : ℕ → ℕ = λ other. owner_weight f (owner_of core other) other in
+    let mine_there : chunks_at f v ≡ times chunk v.chunks = ap (λ (b : Bool). weigh (λ other. cond {A = ℕ} b (is_number chunk other) 0) v.chunks) (eq-eqb v.seat v.seat refl) in
+    let some_terms : 1 ≤ below terms n = omega (arith, mine, mine_there, held f, sum_at (chunks_at f) views id v at) in
+    let within : chunk < n = elim (cases_lt chunk n) [
+      | inl lt ↦ lt
+      | inr le ↦ absurd (omega (arith, some_terms, below_none terms n (λ other lt. none_of_other_chunks v.seat chunk other (owner_of core other) (λ is. absurd (omega (arith, is, lt, le))))))
+    ] in
+    record {
+      within = within;
+      owner = ⊎_elim
+          (λ is. is)
+          (λ none. absurd (omega (
+            arith,
+            some_terms,
+            below_none terms n (λ other lt. elim (cases_eq other chunk) [
+              | inl is ↦ subst (λ (j : ℕ). owner_weight f (owner_of core j) j ≡ 0) (sym is) none
+              | inr ne ↦ none_of_other_chunks v.seat chunk other (owner_of core other) ne
+            ]),
+          )))
+          (owned_or_none v.seat chunk (owner_of core chunk));
+      once = omega (arith, mine_there, held f, sum_at (chunks_at f) views id v at, below_le terms (is_number chunk) n (λ other lt. at_most_number v.seat chunk other (owner_of core other)), below_is n chunk within);
+    }

@@ -1,5 +1,5 @@
 -- A look at a ring.
-use Rattle.std.proofs.Common.{ℕ, ◌+◌, ◌≡◌, ◌≤◌, ◌<◌, inr, false, List, [], ◌∷◌, set, Some, refl, sym, ap, ◌∙◌, subst, arith}
+use Rattle.std.proofs.Common.{ℕ, ◌≡◌, ◌<◌, inr, false, List, set, Some, refl, subst, arith}
 use Rattle.std.specs.Prelude.{Option}
 use mathlib.Core.Option.{some}
 use lib.ListN.{get_elem?}
@@ -17,7 +17,6 @@ use Rattle.app_queue.proofs.ArmFrames.{arms_stay}
 use Rattle.app_queue.proofs.KnownFrames.{tags_known, words_known}
 use Rattle.app_queue.proofs.RingFrames.{rings_step}
 use Rattle.request_context.specs.declared.piece.Parcel.{Parcel}
-use Rattle.unit_model.specs.Core.{role_of}
 use Rattle.unit_model.specs.Holding.{items_of}
 use Rattle.unit_model.specs.declared.machine.Core.{Core}
 use Rattle.unit_model.specs.declared.shape.Shape.{Shape}
@@ -28,17 +27,13 @@ use Rattle.fabric_words.specs.Places.{queues_of}
 use Rattle.fabric_words.specs.declared.place.Place.{Place}
 use Rattle.fabric_words.specs.declared.place.Place.TheVariants.{Head}
 use Rattle.fabric_words.specs.declared.place.Side.TheVariants.{FreeSide}
-use Rattle.fabric_rule.specs.FrameLaws.{SameLists}
-use Rattle.fabric_rule.specs.Parts.{IsIdle, KeptAreWorn, OpensNoted, RecordsKnown}
-use Rattle.fabric_rule.specs.Rule.{FabricHolds, NotesAreTrue, ViewsShow}
+use Rattle.fabric_rule.specs.Rule.{FabricHolds, NotesAreTrue}
 use Rattle.fabric_rule.specs.Steps.{IsNoStep, LookLaw}
-use Rattle.fabric_rule.specs.Views.{arms_at, chunks_at, got_at, hand_at, held_at, item_log, log_at, logged, part_in, part_said, posts_at, queues_in, ring_in, run_in, run_said, tag_in, tag_kept, tag_said}
+use Rattle.fabric_rule.specs.Views.{arms_at, got_at, held_at, item_log, log_at, logged, part_in, part_said, queues_in, ring_in, run_in, run_said, tag_in, tag_kept, tag_said}
 use Rattle.fabric_rule.specs.declared.event.FabricEvent.TheVariants.{AtRing}
 use Rattle.fabric_rule.specs.declared.view.FabricView.{FabricView}
-use Rattle.fabric_rule.proofs.Frames.{of_each}
-use Rattle.fabric_rule.proofs.ListFrames.{counted_stay, in_work_stay, lists_stay, lists_there, streams_stay, works_stay}
+use Rattle.fabric_rule.proofs.Logged.{logs}
 use Rattle.fabric_rule.proofs.Logs.{looked_log, other_log, own_log}
-use Rattle.fabric_rule.proofs.Sums.{sum_stays}
 
 module _ {H : Type 0} (reply_of : List ℕ → Request → Reply) (shape : Shape) (s : State (Option (Parcel H)) FabricView) (holds : FabricHolds reply_of shape s) (id : ℕ) (v : FabricView) (at : get_elem? s.views id ≡ some v)
     (queue : ℕ) (side : Side) (e : RingEvent) (there : queue < queues_of shape) (look : IsLook e) (noted : Noted (items_of shape queue) (ring_in (word_in shape s.words) queue side) e) where
@@ -53,9 +48,6 @@ module _ {H : Type 0} (reply_of : List ℕ → Request → Reply) (shape : Shape
 
   same_events : (r : ℕ) → item_log r u.log ≡ item_log r v.log
   same_events r = looked_log queue side e v.log r look
-
-  same : SameLists core core
-  same = record { shape = refl; seats = refl }
 
   notes' : NotesAreTrue shape word (set s.views id u)
   notes' =
@@ -82,44 +74,8 @@ module _ {H : Type 0} (reply_of : List ℕ → Request → Reply) (shape : Shape
             (λ i mine p got. (mine, (got.0, subst (λ (es : List ItemEvent). is_armed i es ≡ false) (same_events q) got.1))) (old.arms q lt);
       }
 
-  views' : ViewsShow shape word holds.popped holds.armed holds.records core (set s.views id u)
-  views' =
-      let old = holds.views in
-      record {
-        there = of_each (λ y. role_of core y.seat ≤ 1) (λ y. role_of core y.seat ≤ 1) s.views id u (old.there id v at) (λ y is. is) old.there;
-        items = λ q lt f. sum_stays (hand_at q f) s.views id v u at refl ∙ old.items q lt f;
-        chunks = λ f. sum_stays (chunks_at f) s.views id v u at refl ∙ old.chunks f;
-        opens = of_each (OpensNoted core) (OpensNoted core) s.views id u (record { out = (old.opens id v at).out; back = (old.opens id v at).back }) (λ y is. is) old.opens;
-        posts = λ stream. sum_stays (posts_at stream) s.views id v u at refl ∙ old.posts stream;
-        streams = streams_stay core core s.views id v u at refl (λ q i. refl) refl old.streams;
-        records_known = of_each (RecordsKnown core holds.records) (RecordsKnown core holds.records) s.views id u (old.records_known id v at) (λ y is. is) old.records_known;
-        lists = lists_stay core core holds.popped s.views id v u at same refl old.lists;
-        lists_there = lists_there core core s.views id v u at refl (λ k. refl) old.lists_there;
-        works = works_stay core core holds.armed s.views id v u at same refl refl refl old.works;
-        counted = counted_stay s.views id v u at (λ k. refl) old.counted;
-        idle = of_each (IsIdle shape) (IsIdle shape) s.views id u (λ none. record { chunks = (old.idle id v at none).chunks; items = (old.idle id v at none).items }) (λ y is. is) old.idle;
-        in_work = in_work_stay core core s.views id v u at same refl old.in_work;
-        kept = of_each (KeptAreWorn shape (ring_in word)) (KeptAreWorn shape (ring_in word)) s.views id u (old.kept id v at) (λ y is. is) old.kept;
-      }
-
   pub looks : IsNoStep reply_of shape s holds (record s { views = set s.views id u })
-  looks = record {
-    after = record {
-      wide = holds.wide;
-      core = core;
-      popped = holds.popped;
-      armed = holds.armed;
-      records = holds.records;
-      shaped = holds.shaped;
-      keeps = holds.keeps;
-      shows = holds.shows;
-      notes = notes';
-      views = views';
-      free = holds.free;
-      filled = holds.filled;
-    };
-    is = refl;
-  }
+  looks = logs reply_of shape s holds id v at (AtRing queue side e) notes' (record { out = (holds.views.opens id v at).out; back = (holds.views.opens id v at).back })
 
 pub look : (H : Type 0) → LookLaw H
 look H reply_of shape s holds id v at queue side e there is_look noted = looks reply_of shape s holds id v at queue side e there is_look noted

@@ -1,13 +1,10 @@
 -- A seat's lists get a note more.
-use Rattle.std.proofs.Common.{ℕ, ◌+◌, ◌-◌, ◌≡◌, ◌≢◌, ◌≤◌, ◌<◌, ◌⊎◌, inl, inr, ⊎_elim, ◌==◌, ◌&&◌, ◌||◌, Bool, true, false, List, [], ◌∷◌, ◌++◌, length, get_or, set, refl, sym, ap, ◌∙◌, subst, arith}
+use Rattle.std.proofs.Common.{ℕ, ◌+◌, ◌≡◌, ◌≢◌, ◌≤◌, ◌⊎◌, inl, inr, ◌==◌, ◌&&◌, ◌||◌, Bool, false, List, [], ◌∷◌, ◌++◌, get_or, refl, sym, ap, ◌∙◌, subst, arith}
 use Rattle.std.specs.List.{list_any}
 use Rattle.std.proofs.lemmas.Bool.{cases_eq, ne_eqb}
-use mathlib.Core.Option.{some}
-use lib.ListN.{get_elem?}
 use Rattle.unit_model.specs.Core.{no_seat, role_of, seat_of}
 use Rattle.unit_model.specs.Effects.{noted}
-use Rattle.unit_model.specs.Lists.{change_at}
-use Rattle.unit_model.specs.PartCounts.{is_of_stream, of_stream}
+use Rattle.unit_model.specs.PartCounts.{of_stream}
 use Rattle.unit_model.specs.PartOrder.{Each}
 use Rattle.unit_model.specs.Shapes.{role_in}
 use Rattle.unit_model.specs.Weights.{weigh, is_number, one_if, times}
@@ -20,11 +17,11 @@ use Rattle.unit_model.specs.declared.shape.Shape.{Shape}
 use Rattle.unit_model.proofs.Changes.{changed_at, unchanged_at}
 use Rattle.unit_model.proofs.Weights.{is_number_other, is_number_same, weigh_push}
 use Rattle.fabric_rule.specs.FrameLaws.{ListsNotedLaw, NotedSameLaw, NotesOne, SameOf, note_stream}
-use Rattle.fabric_rule.specs.Parts.{IsInCare, IsOwn, IsRefused, KnowsWork, ShowsLists}
+use Rattle.fabric_rule.specs.Parts.{IsTrueLedger, IsOwn, IsRefused, KnowsWork, ShowsLists}
 use Rattle.fabric_rule.specs.Views.{lists_at}
 use Rattle.fabric_rule.specs.declared.cause.Refusal.{Refusal}
-use Rattle.fabric_rule.specs.declared.view.Arming.{Arming}
-use Rattle.fabric_rule.specs.declared.view.Care.{Care}
+use Rattle.fabric_rule.specs.declared.view.ArmNote.{ArmNote}
+use Rattle.fabric_rule.specs.declared.view.Ledger.{Ledger}
 use Rattle.fabric_rule.specs.declared.view.FabricView.{FabricView}
 use Rattle.fabric_rule.specs.declared.view.Work.{Work}
 use Rattle.fabric_rule.specs.declared.view.Work.TheVariants.{Drawn as DrawnWork, Posted as PostedWork, Taken as TakenWork, Sending, Holding}
@@ -101,21 +98,21 @@ module _ (core core' : Core) (seat : ℕ) (note : Note) (notes : NotesOne core c
 
 pub lists_noted : ListsNotedLaw
 lists_noted core core' note popped popped' views id v u c c' at notes only number only' number' grown refused mine_popped others_popped old =
-    let as_many : (key : ℕ) → lists_at key u ≡ lists_at key v = λ key. ap (weigh (λ (d : Care). is_number key d.seat)) only' ∙ ap (λ (n : ℕ). is_number key n + 0) number' ∙ sym (ap (weigh (λ (d : Care). is_number key d.seat)) only) in
-    let mine_at : lists_at c.seat v ≡ 1 = ap (weigh (λ (d : Care). is_number c.seat d.seat)) only ∙ omega (arith, is_number_same c.seat) in
-    let before : IsInCare core popped c = (subst (λ (cs : List Care). Each (λ (d : Care). d.seat ≡ c.seat → IsInCare core popped d) cs) only (old.each c.seat id v at (omega (arith, mine_at)))).0 refl in
+    let as_many : (key : ℕ) → lists_at key u ≡ lists_at key v = λ key. ap (weigh (λ (d : Ledger). is_number key d.seat)) only' ∙ ap (λ (n : ℕ). is_number key n + 0) number' ∙ sym (ap (weigh (λ (d : Ledger). is_number key d.seat)) only) in
+    let mine_at : lists_at c.seat v ≡ 1 = ap (weigh (λ (d : Ledger). is_number c.seat d.seat)) only ∙ omega (arith, is_number_same c.seat) in
+    let before : IsTrueLedger core popped c = (subst (λ (cs : List Ledger). Each (λ (d : Ledger). d.seat ≡ c.seat → IsTrueLedger core popped d) cs) only (old.each c.seat id v at (omega (arith, mine_at)))).0 refl in
     let at_seat : c'.seat ≡ v.seat = number' ∙ number in
-    let now : IsInCare core' popped' c' = record {
+    let now : IsTrueLedger core' popped' c' = record {
       lists = grown ∙ ap (noted note) (before.lists ∙ ap (seat_of core) number) ∙ sym (noted_here core core' v.seat note notes) ∙ sym (ap (seat_of core') at_seat);
       refused = subst (λ (k : ℕ). Each (IsRefused core' k) c'.refusals) (sym number') (subst (Each (IsRefused core' c.seat)) (sym refused) (refused_kept core core' v.seat note notes c.seat c.refusals before.refused));
       popped_item = λ engine. ap popped' at_seat ∙ mine_popped (sym (ap (λ (s : Shape). role_in s v.seat) notes.shape) ∙ sym (ap (role_of core') at_seat) ∙ engine);
     } in
     keyed_step FabricView lists_at (ShowsLists core popped) (ShowsLists core' popped') views id v u at
     (λ key. omega (arith, as_many key, old.once key))
-    (λ key has. subst (λ (cs : List Care). Each (λ (d : Care). d.seat ≡ key → IsInCare core' popped' d) cs) (sym only') ((λ is. now), tt))
+    (λ key has. subst (λ (cs : List Ledger). Each (λ (d : Ledger). d.seat ≡ key → IsTrueLedger core' popped' d) cs) (sym only') ((λ is. now), tt))
     (λ key none y has shown.
     let other : key ≢ v.seat = λ is. absurd (omega (arith, none, ap (λ (k : ℕ). lists_at k v) (is ∙ sym number), mine_at)) in
-    each_gives (λ (d : Care). d.seat ≡ key → IsInCare core popped d) (λ (d : Care). d.seat ≡ key → IsInCare core' popped' d) y.care
+    each_gives (λ (d : Ledger). d.seat ≡ key → IsTrueLedger core popped d) (λ (d : Ledger). d.seat ≡ key → IsTrueLedger core' popped' d) y.ledgers
     (λ d was is.
     let away : d.seat ≢ v.seat = λ same. other (sym is ∙ same) in
     record {
@@ -132,8 +129,8 @@ lists_noted core core' note popped popped' views id v u c c' at notes only numbe
 abbrev pub work_stream : Work → ℕ
 work_stream (DrawnWork stream) = stream
 work_stream (PostedWork stream item) = stream
-work_stream (TakenWork stream parts) = stream
-work_stream (Sending stream queue item) = stream
+work_stream (TakenWork stream poster parts) = stream
+work_stream (Sending stream poster parts last item) = stream
 work_stream Holding = 0
 
 never_fewer : (note : Note) (l : SeatLists) (stream : ℕ) → times stream l.posted ≤ times stream (noted note l).posted
@@ -160,17 +157,17 @@ module _ (core core' : Core) (seat : ℕ) (note : Note) (notes : NotesOne core c
   said_as other stream (inl ne) = same_of_others core core' seat note notes other stream ne
   said_as other stream (inr away) = subst (SameOf stream (seat_of core other)) (sym (noted_else core core' seat note notes other away)) (record { drawn_as = refl; posted_as = refl; cancelled_as = refl; abandoned_as = refl; taken_as = refl; closed_as = refl; sent_as = refl; finished_as = refl; received_as = refl })
 
-  pub work_noted : (other : ℕ) (arms : List Arming) (w : Work) → (work_stream w ≢ note_stream note) ⊎ (other ≢ seat) → armed' (work_stream w) ≡ armed (work_stream w) → KnowsWork core armed other arms w → KnowsWork core' armed' other arms w
+  pub work_noted : (other : ℕ) (arms : List ArmNote) (w : Work) → (work_stream w ≢ note_stream note) ⊎ (other ≢ seat) → armed' (work_stream w) ≡ armed (work_stream w) → KnowsWork core armed other arms w → KnowsWork core' armed' other arms w
   work_noted other arms (DrawnWork stream) apart same old =
       let said = said_as other stream apart in
       record { drew = omega (arith, old.drew, said.drawn_as); unposted = said.posted_as ∙ old.unposted }
   work_noted other arms (PostedWork stream item) apart same old =
       let said = said_as other stream apart in
       record { was_posted = omega (arith, old.was_posted, said.posted_as); uncancelled = said.cancelled_as ∙ old.uncancelled; unabandoned = said.abandoned_as ∙ old.unabandoned; arm = old.arm }
-  work_noted other arms (TakenWork stream parts) apart same old =
+  work_noted other arms (TakenWork stream poster parts) apart same old =
       let said = said_as other stream apart in
-      record { took = omega (arith, old.took, said.taken_as); unclosed = said.closed_as ∙ old.unclosed; parts_out = said.sent_as ∙ old.parts_out; unfinished = said.finished_as ∙ old.unfinished; nothing = same ∙ old.nothing }
-  work_noted other arms (Sending stream queue item) apart same old =
+      record { took = omega (arith, old.took, said.taken_as); unclosed = said.closed_as ∙ old.unclosed; to = omega (arith, old.to, posted_kept poster stream); parts_out = said.sent_as ∙ old.parts_out; unfinished = said.finished_as ∙ old.unfinished; nothing = same ∙ old.nothing }
+  work_noted other arms (Sending stream poster parts last item) apart same old =
       let said = said_as other stream apart in
-      record { took = omega (arith, old.took, said.taken_as); unclosed = said.closed_as ∙ old.unclosed; back = old.back; to = omega (arith, old.to, posted_kept (queue - 1) stream); one = same ∙ old.one }
+      record { took = omega (arith, old.took, said.taken_as); unclosed = said.closed_as ∙ old.unclosed; to = omega (arith, old.to, posted_kept poster stream); parts_out = said.sent_as ∙ old.parts_out; finished = said.finished_as ∙ old.finished; one = same ∙ old.one }
   work_noted other arms Holding apart same old = tt

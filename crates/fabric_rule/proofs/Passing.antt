@@ -22,19 +22,16 @@ use Rattle.unit_model.specs.Core.{item_of, owner_of}
 use Rattle.unit_model.specs.Holding.{IsInRun}
 use Rattle.unit_model.specs.Limits.{segment_chunks}
 use Rattle.unit_model.specs.Runs.{chunks_for}
-use Rattle.unit_model.specs.Soundness.{IsSound}
 use Rattle.unit_model.specs.Weights.{is_number, times}
-use Rattle.unit_model.specs.declared.machine.Core.{Core}
 use Rattle.unit_model.specs.declared.machine.Item.{Item}
 use Rattle.unit_model.specs.declared.machine.Owner.{Owner}
-use Rattle.unit_model.specs.declared.machine.Owner.TheVariants.{Free, Seat, Message}
+use Rattle.unit_model.specs.declared.machine.Owner.TheVariants.{Seat, Message}
 use Rattle.unit_model.specs.declared.runs.Run.{Run}
 use Rattle.unit_model.specs.declared.shape.Shape.{Shape}
 use Rattle.fabric_words.specs.Places.{HasItem, map_of, segments_of}
-use Rattle.fabric_words.specs.Shown.{Shows, is_owned_by_none}
-use Rattle.fabric_words.specs.declared.place.Place.{Place}
+use Rattle.fabric_words.specs.Shown.{is_owned_by_none}
 use Rattle.fabric_rule.specs.Contents.{ArmedFilled, IsFilled}
-use Rattle.fabric_rule.specs.Passing.{OthersStay, SlotsCome, SlotsComeLaw, SlotsGo, SlotsGoLaw, first_of}
+use Rattle.fabric_rule.specs.Passing.{SlotsComeLaw, SlotsGo, SlotsGoLaw, first_of}
 use Rattle.fabric_rule.proofs.Contents.{filled_same, filled_stay}
 
 -- a chunk is one of the run's, or lies off it
@@ -89,6 +86,7 @@ slots_come H reply_of records core core' word homes carried sound shows shape qu
       parcels = is.parcels;
       long = is.long;
       carries = is.carries;
+      home = is.home;
       valid = taken.valid;
       taken = taken.carried;
       free = subst (λ (s : Shape). FreeSlots (segment_chunks * segments_of s) (map_of word) (homes_after homes carried (takes_all t))) (sym shape) free';

@@ -1,9 +1,9 @@
 -- Sums over all views, and over numbers of which a range has changed.
-use Rattle.std.proofs.Common.{ℕ, zero, suc, ◌+◌, ◌-◌, ◌≡◌, ◌≢◌, ◌≤◌, ◌<◌, ◌⊎◌, inl, inr, ⊎_elim, List, [], ◌∷◌, set, refl, sym, ap, ◌∙◌, subst, arith}
+use Rattle.std.proofs.Common.{ℕ, ◌+◌, ◌-◌, ◌≡◌, ◌≤◌, ◌<◌, ◌⊎◌, inl, inr, List, [], ◌∷◌, ◌++◌, set, ap, arith}
 use Rattle.std.specs.List.{range_with_len}
 use mathlib.Core.Option.{some}
 use lib.ListN.{get_elem?}
-use Rattle.atomic_table.proofs.Lists.{at_set}
+use Rattle.carried_slots.specs.Carried.{numbers}
 use Rattle.unit_model.specs.PartOrder.{Each}
 use Rattle.unit_model.specs.Weights.{weigh, below}
 use Rattle.unit_model.proofs.Views.{sum_set}
@@ -34,8 +34,21 @@ range_changes f g first n all le same =
       back,
     )
 
+-- what numbered slots weigh
+pub weigh_numbers : {S : Type 0} (f : ℕ → ℕ) (xs ys : List (ℕ × S)) → weigh f (numbers (xs ++ ys)) ≡ weigh f (numbers xs) + weigh f (numbers ys)
+weigh_numbers f [] ys = omega arith
+weigh_numbers f (x ∷ xs) ys = omega (arith, weigh_numbers f xs ys)
+
 -- ---- each element
 
 pub each_gives : {X : Type 0} (P Q : X → Type 0) (xs : List X) → ((x : X) → P x → Q x) → Each P xs → Each Q xs
 each_gives P Q [] gives old = tt
 each_gives P Q (x ∷ xs) gives old = (gives x old.0, each_gives P Q xs gives old.1)
+
+pub each_both : {X : Type 0} (P R Q : X → Type 0) (xs : List X) → ((x : X) → P x → R x → Q x) → Each P xs → Each R xs → Each Q xs
+each_both P R Q [] gives one other = tt
+each_both P R Q (x ∷ xs) gives one other = (gives x one.0 other.0, each_both P R Q xs gives one.1 other.1)
+
+pub each_all : {X : Type 0} (P : X → Type 0) (xs : List X) → ((x : X) → P x) → Each P xs
+each_all P [] so = tt
+each_all P (x ∷ xs) so = (so x, each_all P xs so)

@@ -1,13 +1,12 @@
 -- A worker takes a request.
-use Rattle.std.proofs.Common.{ℕ, zero, suc, ◌+◌, ◌-◌, ◌*◌, ◌/◌, ◌≡◌, ◌≢◌, ◌≤◌, ◌<◌, ◌⊎◌, ◌==◌, ◌&&◌, inl, inr, ⊎_elim, Bool, true, false, cond, List, [], ◌∷◌, ◌++◌, length, set, refl, sym, ap, ◌∙◌, subst, arith, length-set, Some, None}
+use Rattle.std.proofs.Common.{ℕ, ◌+◌, ◌*◌, ◌≡◌, ◌≢◌, ◌≤◌, ◌<◌, ◌⊎◌, ◌==◌, ◌&&◌, inl, inr, ⊎_elim, Bool, true, false, cond, List, [], ◌∷◌, ◌++◌, length, set, refl, sym, ap, ◌∙◌, subst, arith, length-set, Some}
 use Rattle.std.specs.Prelude.{Option}
 use Rattle.std.specs.List.{list_any, range_with_len}
-use Rattle.std.proofs.lemmas.Bool.{cases_Bool, cases_eq, cases_lt, eq-eqb, ne_eqb}
+use Rattle.std.proofs.lemmas.Bool.{cases_Bool, cases_eq, cases_lt, ne_eqb}
 use mathlib.Core.Option.{some}
 use lib.ListN.{get_elem?}
-use Rattle.atomic_table.specs.Table.{State, homes_after, stepped}
-use Rattle.app_queue.specs.Arms.{ArmsPlaced}
-use Rattle.app_queue.specs.Parts.{RingParts, TagsKnown, WordsKnown}
+use Rattle.atomic_table.specs.Table.{State, Valid, carried_after, homes_after, stepped}
+use Rattle.app_queue.specs.Parts.{RingParts}
 use Rattle.app_queue.specs.Queues.{SetsWord}
 use Rattle.app_queue.specs.Views.{last_tag, last_run, last_part, is_armed}
 use Rattle.app_queue.specs.declared.side.Side.{Side}
@@ -20,7 +19,8 @@ use Rattle.app_queue.proofs.QueueViews.{told_else, told_here}
 use Rattle.app_queue.proofs.RingFrames.{rings_stay}
 use Rattle.carried_slots.specs.Acts.{takes_all}
 use Rattle.carried_slots.specs.FreeSlots.{FreeSlots}
-use Rattle.carried_slots.specs.RunLaws.{full_run}
+use Rattle.carried_slots.specs.RunLaws.{HaveValuesAtHome, full_run}
+use Rattle.carried_slots.proofs.RunMoving.{full_numbers}
 use Rattle.port_message.specs.Words.{numbers_of}
 use Rattle.request_context.specs.Parcels.{joined}
 use Rattle.request_context.specs.declared.piece.Parcel.{Parcel}
@@ -29,17 +29,16 @@ use Rattle.unit_model.specs.Core.{item_of, owner_of, queue_of, role_of, seat_of}
 use Rattle.unit_model.specs.Effects.{after_step, noted, settled_note, with_item, with_note, with_run_owner}
 use Rattle.unit_model.specs.Holding.{IsInRun, items_of}
 use Rattle.unit_model.specs.Limits.{segment_chunks}
-use Rattle.unit_model.specs.PartCounts.{of_stream, parts_by_seat, sent}
+use Rattle.unit_model.specs.PartCounts.{of_stream}
 use Rattle.unit_model.specs.PartOrder.{Each}
-use Rattle.unit_model.specs.Premises.{IsInHand, MaySettle, Takes}
+use Rattle.unit_model.specs.Premises.{IsInHand, Takes}
 use Rattle.unit_model.specs.Runs.{chunks_for}
 use Rattle.unit_model.specs.Shapes.{role_in}
 use Rattle.unit_model.specs.Sharing.{Holds, Owned}
-use Rattle.unit_model.specs.StreamCounts.{by_all, by_seat, closed, line_tags, posted, taken}
+use Rattle.unit_model.specs.StreamCounts.{by_all, by_seat, posted, taken}
 use Rattle.unit_model.specs.Weights.{weigh, is_number, times}
 use Rattle.unit_model.specs.declared.machine.Core.{Core}
 use Rattle.unit_model.specs.declared.machine.Item.{Item}
-use Rattle.unit_model.specs.declared.machine.Note.{Note}
 use Rattle.unit_model.specs.declared.machine.Note.TheVariants.{Taken}
 use Rattle.unit_model.specs.declared.machine.Owner.{Owner}
 use Rattle.unit_model.specs.declared.machine.Owner.TheVariants as owner
@@ -49,7 +48,7 @@ use Rattle.unit_model.specs.declared.machine.Step.TheVariants.{Settle}
 use Rattle.unit_model.specs.declared.runs.Run.{Run}
 use Rattle.unit_model.specs.declared.shape.Shape.{Shape}
 use Rattle.unit_model.proofs.ChangedCore.{set_all_outside}
-use Rattle.unit_model.proofs.ItemChanges.{SetsItem, item_beside, item_elsewhere, item_here, weigh_items}
+use Rattle.unit_model.proofs.ItemChanges.{SetsItem, item_beside, item_elsewhere, item_here}
 use Rattle.unit_model.proofs.MetSteps.{role_is_there}
 use Rattle.unit_model.proofs.PartOrderOthers.{others_in_order}
 use Rattle.unit_model.proofs.RoleLists.{seats_by_role_stay}
@@ -64,20 +63,20 @@ use Rattle.fabric_words.specs.Offsets.{offset_of, word_in}
 use Rattle.fabric_words.specs.Places.{HasItem, Sets, map_of, queues_of, segments_of}
 use Rattle.fabric_words.specs.Shown.{IsStep, ShowsItem}
 use Rattle.fabric_words.specs.declared.place.Place.{Place}
-use Rattle.fabric_words.specs.declared.place.Place.TheVariants.{Chunks, Head, PartWord, RunWord, Tag, Tail}
+use Rattle.fabric_words.specs.declared.place.Place.TheVariants.{Head, PartWord, RunWord, Tag, Tail}
 use Rattle.fabric_words.specs.declared.place.Side.TheVariants.{FreeSide}
 use Rattle.fabric_words.proofs.EachStep.{made_step}
 use Rattle.fabric_words.proofs.Frames.{chunk_stays, ring_stays}
 use Rattle.fabric_words.proofs.ItemSteps.{settle_gives_run}
 use Rattle.fabric_words.proofs.Standing.{set_word}
-use Rattle.fabric_rule.specs.Contents.{Carries, IsRequest, OfReply, OfRequest}
-use Rattle.fabric_rule.specs.FrameLaws.{NotesOne, SameOf}
+use Rattle.fabric_rule.specs.Contents.{Carries, CarriesSlots, IsRequest, OfReply, OfRequest}
+use Rattle.fabric_rule.specs.FrameLaws.{NotesOne, StaysUntagged}
 use Rattle.fabric_rule.specs.Hands.{items_elsewhere}
-use Rattle.fabric_rule.specs.Parts.{ChunksHeld, IsIdle, IsPosting, KeptAreWorn, ListsShown, OpensNoted, RecordsKnown, ShowsWorks, WorksShown, owner_weight}
+use Rattle.fabric_rule.specs.Parts.{ChunksHeld, IsIdle, IsPosting, KeptAreWorn, OpensNoted, RecordsKnown, ShowsWorks, WorksShown, owner_weight}
 use Rattle.fabric_rule.specs.Passing.{OthersStay, SlotsCome, first_of}
 use Rattle.fabric_rule.specs.Rule.{FabricHolds, NotesAreTrue, ViewsShow}
-use Rattle.fabric_rule.specs.Steps.{HasLists, IsMachineStep, TakeLaw, with_request}
-use Rattle.fabric_rule.specs.Views.{arms_at, chunks_at, got_at, held_at, item_log, log_at, open_noted, part_in, part_said, queues_in, ring_in, run_in, run_said, tag_in, tag_kept, tag_said, take_weight, draw_weight, word_side}
+use Rattle.fabric_rule.specs.Steps.{HasLists, IsMachineStep, RequestComes, TakeLaw, with_request}
+use Rattle.fabric_rule.specs.Views.{arms_at, got_at, held_at, item_log, log_at, open_noted, part_in, part_said, queues_in, ring_in, run_in, run_said, tag_in, tag_kept, tag_said, take_weight, draw_weight, word_side}
 use Rattle.unit_model.specs.ByRole.{SeatByRole}
 use Rattle.unit_model.specs.Core.{blank}
 use Rattle.unit_model.specs.Weights.{one_if}
@@ -86,24 +85,24 @@ use Rattle.unit_model.proofs.Views.{sum_set}
 use Rattle.unit_model.proofs.Weights.{below_none, below_same, is_number_other, is_number_some, weigh_push, weigh_range}
 use Rattle.fabric_words.specs.Places.{is_of_ring}
 use Rattle.fabric_rule.specs.Contents.{ArmedFilled}
-use Rattle.fabric_rule.specs.Parts.{IsOpen, KnowsTaken, KnowsWork}
+use Rattle.fabric_rule.specs.Parts.{AwaitsReply, KnowsTaken, KnowsWork}
 use Rattle.fabric_rule.specs.Steps.{with_note as main_note}
 use Rattle.fabric_rule.specs.Views.{draw_at, opens_at, posts_at, take_at, works_at}
 use Rattle.fabric_rule.specs.declared.event.Segments.TheVariants.{Out, Back}
-use Rattle.fabric_rule.specs.declared.view.Arming.{Arming}
-use Rattle.fabric_rule.specs.declared.view.Care.{Care}
+use Rattle.fabric_rule.specs.declared.view.ArmNote.{ArmNote}
+use Rattle.fabric_rule.specs.declared.view.Ledger.{Ledger}
 use Rattle.fabric_rule.specs.declared.view.FabricView.{FabricView}
 use Rattle.fabric_rule.specs.declared.view.Posting.{Posting}
 use Rattle.fabric_rule.specs.declared.view.Work.{Work}
 use Rattle.fabric_rule.specs.declared.view.Work.TheVariants.{Drawn as DrawnWork, Posted as PostedWork, Taken as TakenWork, Sending, Holding}
-use Rattle.fabric_rule.proofs.Contents.{kept_stay}
-use Rattle.fabric_rule.proofs.Frames.{chunks_move, items_stay, of_each}
+use Rattle.fabric_rule.proofs.Contents.{kept_stay, kept_untagged}
+use Rattle.fabric_rule.proofs.Frames.{chunks_move, items_stay, of_each, of_fabric}
 use Rattle.fabric_rule.proofs.Hands.{hands_owned, in_hand}
 use Rattle.fabric_rule.proofs.KeyedSteps.{keyed_none, keyed_step}
 use Rattle.fabric_rule.proofs.ListFrames.{counted_stay, lists_there, streams_stay}
 use Rattle.fabric_rule.proofs.Noting.{lists_noted, noted_else, noted_here, work_noted, work_stream}
 use Rattle.fabric_rule.proofs.Passing.{slots_come, this_or_other}
-use Rattle.fabric_rule.proofs.Sums.{each_gives, sum_stays}
+use Rattle.fabric_rule.proofs.Sums.{each_gives, sum_stays, weigh_numbers}
 
 -- ---- what Settle leaves of a core
 
@@ -137,29 +136,29 @@ none_last_of stream (x ∷ xs) zeros =
     ]
 
 -- whose work has the stream has drawn or posted it, and is no worker
-drawer_apart : (core : Core) (armed : ℕ → List ℕ) (worker seat : ℕ) (arms : List Arming) (key : ℕ) (w : Work) → SeatByRole 1 (seat_of core worker) → 1 ≤ draw_weight key w → KnowsWork core armed seat arms w → seat ≢ worker
+drawer_apart : (core : Core) (armed : ℕ → List ℕ) (worker seat : ℕ) (arms : List ArmNote) (key : ℕ) (w : Work) → SeatByRole 1 (seat_of core worker) → 1 ≤ draw_weight key w → KnowsWork core armed seat arms w → seat ≢ worker
 drawer_apart core armed worker seat arms key (DrawnWork stream) by_role has know = λ is. absurd (omega (arith, know.drew, ap (λ (k : ℕ). times stream (seat_of core k).drawn) is, ap (times stream) (by_role.engine (λ e. absurd (cc e))).0))
 drawer_apart core armed worker seat arms key (PostedWork stream item) by_role has know = λ is. absurd (omega (arith, know.was_posted, ap (λ (k : ℕ). times stream (seat_of core k).posted) is, ap (times stream) (by_role.engine (λ e. absurd (cc e))).1))
-drawer_apart core armed worker seat arms key (TakenWork stream parts) by_role has know = absurd (omega (arith, has))
-drawer_apart core armed worker seat arms key (Sending stream queue item) by_role has know = absurd (omega (arith, has))
+drawer_apart core armed worker seat arms key (TakenWork stream poster parts) by_role has know = absurd (omega (arith, has))
+drawer_apart core armed worker seat arms key (Sending stream poster parts last item) by_role has know = absurd (omega (arith, has))
 drawer_apart core armed worker seat arms key Holding by_role has know = absurd (omega (arith, has))
 
 -- a work that a taker has of a stream is of that stream, which it took
 taken_stream : (key : ℕ) (w : Work) → 1 ≤ take_weight key w → work_stream w ≡ key
 taken_stream key (DrawnWork stream) has = absurd (omega (arith, has))
 taken_stream key (PostedWork stream item) has = absurd (omega (arith, has))
-taken_stream key (TakenWork stream parts) has = is_number_some key stream (omega (arith, has))
-taken_stream key (Sending stream queue item) has = is_number_some key stream (omega (arith, has))
+taken_stream key (TakenWork stream poster parts) has = is_number_some key stream (omega (arith, has))
+taken_stream key (Sending stream poster parts last item) has = is_number_some key stream (omega (arith, has))
 taken_stream key Holding has = absurd (omega (arith, has))
 
-took_it : (core : Core) (armed : ℕ → List ℕ) (seat : ℕ) (arms : List Arming) (key : ℕ) (w : Work) → 1 ≤ take_weight key w → KnowsWork core armed seat arms w → 1 ≤ times key (seat_of core seat).taken
+took_it : (core : Core) (armed : ℕ → List ℕ) (seat : ℕ) (arms : List ArmNote) (key : ℕ) (w : Work) → 1 ≤ take_weight key w → KnowsWork core armed seat arms w → 1 ≤ times key (seat_of core seat).taken
 took_it core armed seat arms key (DrawnWork stream) has know = absurd (omega (arith, has))
 took_it core armed seat arms key (PostedWork stream item) has know = absurd (omega (arith, has))
-took_it core armed seat arms key (TakenWork stream parts) has know = subst (λ (n : ℕ). 1 ≤ times n (seat_of core seat).taken) (is_number_some key stream (omega (arith, has))) know.took
-took_it core armed seat arms key (Sending stream queue item) has know = subst (λ (n : ℕ). 1 ≤ times n (seat_of core seat).taken) (is_number_some key stream (omega (arith, has))) know.took
+took_it core armed seat arms key (TakenWork stream poster parts) has know = subst (λ (n : ℕ). 1 ≤ times n (seat_of core seat).taken) (is_number_some key stream (omega (arith, has))) know.took
+took_it core armed seat arms key (Sending stream poster parts last item) has know = subst (λ (n : ℕ). 1 ≤ times n (seat_of core seat).taken) (is_number_some key stream (omega (arith, has))) know.took
 took_it core armed seat arms key Holding has know = absurd (omega (arith, has))
 
-some_took : (core : Core) (armed : ℕ → List ℕ) (seat : ℕ) (arms : List Arming) (key : ℕ) (ws : List Work) → 1 ≤ weigh (take_weight key) ws → Each (λ (w : Work). 1 ≤ take_weight key w → KnowsWork core armed seat arms w) ws → 1 ≤ times key (seat_of core seat).taken
+some_took : (core : Core) (armed : ℕ → List ℕ) (seat : ℕ) (arms : List ArmNote) (key : ℕ) (ws : List Work) → 1 ≤ weigh (take_weight key) ws → Each (λ (w : Work). 1 ≤ take_weight key w → KnowsWork core armed seat arms w) ws → 1 ≤ times key (seat_of core seat).taken
 some_took core armed seat arms key [] has shown = absurd (omega (arith, has))
 some_took core armed seat arms key (w ∷ ws) has shown =
     elim (cases_lt 0 (take_weight key w)) [
@@ -173,9 +172,9 @@ two_more false n = refl
 
 -- ---- the step
 
-module _ {H : Type 0} (reply_of : List ℕ → Request → Reply) (shape : Shape) (s : State (Option (Parcel H)) FabricView) (holds : FabricHolds reply_of shape s) (id : ℕ) (v : FabricView) (c : Care) (carried : List (ℕ × Option (Parcel H)))
+module _ {H : Type 0} (reply_of : List ℕ → Request → Reply) (shape : Shape) (s : State (Option (Parcel H)) FabricView) (holds : FabricHolds reply_of shape s) (id : ℕ) (v : FabricView) (c : Ledger) (carried : List (ℕ × Option (Parcel H)))
     (at : get_elem? s.views id ≡ some v) (main : HasLists v c (Holding ∷ [])) (worker : role_in shape v.seat ≡ 1)
-    (item stream run_word : ℕ) (there : HasItem shape 0 item) (mine : Holds (held_at 0) item v) (said : run_said 0 v item run_word) (some_stream : stream ≢ 0) (tag : word_in shape s.words (Tag 0 item) ≡ stream) where
+    (item stream run_word poster : ℕ) (there : HasItem shape 0 item) (mine : Holds (held_at 0) item v) (said : run_said 0 v item run_word) (said_part : part_said 0 v item poster) (some_stream : stream ≢ 0) (tag : word_in shape s.words (Tag 0 item) ≡ stream) where
   abbrev pub word : Place → ℕ
   word = word_in shape s.words
 
@@ -217,6 +216,12 @@ module _ {H : Type 0} (reply_of : List ℕ → Request → Reply) (shape : Shape
 
   run_is : it.run ≡ run
   run_is = sym item_shown.run ∙ ap numbers_of (holds.notes.runs 0 first_queue id v at item there.in_items mine run_word said)
+
+  part_is : it.part ≡ poster
+  part_is = sym item_shown.part ∙ holds.notes.parts 0 first_queue id v at item there.in_items mine poster said_part
+
+  was_posted : 1 ≤ by_seat posted core poster stream
+  was_posted = subst (λ (k : ℕ). 1 ≤ by_seat posted core k stream) part_is (subst (λ (n : ℕ). 1 ≤ by_seat posted core it.part n) tag_is (holds.keeps.sound.streams.part_is_poster item armed))
 
   hand : IsInHand core v.seat 0 item
   hand = in_hand core s.views id v at holds.views.items 0 item there'.in_queues mine
@@ -264,16 +269,17 @@ module _ {H : Type 0} (reply_of : List ℕ → Request → Reply) (shape : Shape
   record Keeps (old new : Item) : Type 0 where
     place : new.whereabouts ≡ old.whereabouts
     last : new.stream ≡ old.stream
+    untagged : old.tag ≡ 0 → new.tag ≡ 0
 
   same_item : (q i : ℕ) → Keeps (item_of core q i) (item_of core' q i)
   same_item q i =
       elim (cases_eq q 0) [
         | inl is ↦ elim (cases_eq i item) [
           | inl this ↦ subst (λ (r : ℕ). Keeps (item_of core r i) (item_of core' r i)) (sym is) (subst (λ (j : ℕ). Keeps (item_of core 0 j) (item_of core' 0 j)) (sym this)
-              (subst (Keeps it) (sym here) (record { place = refl; last = refl })))
-          | inr ne ↦ subst (Keeps (item_of core q i)) (sym (others q i (inr ne))) (record { place = refl; last = refl })
+              (subst (Keeps it) (sym here) (record { place = refl; last = refl; untagged = λ none. refl })))
+          | inr ne ↦ subst (Keeps (item_of core q i)) (sym (others q i (inr ne))) (record { place = refl; last = refl; untagged = λ none. none })
         ]
-        | inr ne ↦ subst (Keeps (item_of core q i)) (sym (others q i (inl ne))) (record { place = refl; last = refl })
+        | inr ne ↦ subst (Keeps (item_of core q i)) (sym (others q i (inl ne))) (record { place = refl; last = refl; untagged = λ none. none })
       ]
 
   -- ---- slots
@@ -286,7 +292,7 @@ module _ {H : Type 0} (reply_of : List ℕ → Request → Reply) (shape : Shape
   request = subst (λ (n : ℕ). IsRequest holds.records n come.parcels) tag_is (request_of reply_of holds.records it.tag it.part come.parcels come.carries)
 
   abbrev u : FabricView
-  u = with_request item stream run (joined come.parcels) c v
+  u = with_request item stream poster run (joined come.parcels) c v
 
   -- ---- notes
 
@@ -394,7 +400,7 @@ module _ {H : Type 0} (reply_of : List ℕ → Request → Reply) (shape : Shape
   mine_now : seat_of core' v.seat ≡ noted (Taken stream) (seat_of core v.seat)
   mine_now = noted_here core core' v.seat (Taken stream) notes_one
 
-  knows : KnowsTaken (seat_of core' v.seat) holds.armed stream 0
+  knows : KnowsTaken (seat_of core' v.seat) (seat_of core' poster) holds.armed stream 0
   knows =
       let counts = holds.keeps.sound.parts in
       let none_closed : times stream (seat_of core v.seat).closed ≡ 0 = omega (arith, counts.closed_by_taker v.seat stream, untaken_by v.seat) in
@@ -402,10 +408,11 @@ module _ {H : Type 0} (reply_of : List ℕ → Request → Reply) (shape : Shape
         | inl some_sent ↦ absurd (omega (arith, counts.sent_by_taker v.seat stream (omega (arith, some_sent)), untaken_by v.seat))
         | inr not_sent ↦ omega (arith, not_sent)
       ] in
-      subst (λ (l : SeatLists). KnowsTaken l holds.armed stream 0) (sym mine_now)
+      subst (λ (l : SeatLists). KnowsTaken l (seat_of core' poster) holds.armed stream 0) (sym mine_now)
       (record {
         took = omega (arith, weigh_push (is_number stream) (seat_of core v.seat).taken stream, is_number_same stream);
         unclosed = none_closed;
+        to = omega (arith, was_posted, same_posted.each poster stream);
         parts_out = none_sent;
         unfinished = none_last_of stream (seat_of core v.seat).sent none_sent;
         nothing = holds.keeps.order.untaken stream untaken;
@@ -486,19 +493,19 @@ module _ {H : Type 0} (reply_of : List ℕ → Request → Reply) (shape : Shape
   postings : (ps : List Posting) → Each (IsPosting core holds.records) ps → Each (IsPosting core' holds.records) ps
   postings ps old = each_gives (IsPosting core holds.records) (IsPosting core' holds.records) ps (λ p is. record { same = is.same; was = omega (arith, is.was, same_posted.all p.stream) }) old
 
-  still_open : (engine key : ℕ) → IsOpen (seat_of core' engine) key → IsOpen (seat_of core engine) key
-  still_open engine key is_open =
+  still_open : (engine key : ℕ) → AwaitsReply (seat_of core' engine) key → AwaitsReply (seat_of core engine) key
+  still_open engine key awaits =
       elim (cases_eq engine v.seat) [
         | inl is ↦
             let lists : SeatLists = seat_of core v.seat in
-            let shown : IsOpen (noted (Taken stream) lists) key = subst (λ (l : SeatLists). IsOpen l key) (ap (seat_of core') is ∙ mine_now) is_open in
-            subst (λ (k : ℕ). IsOpen (seat_of core k) key) (sym is) (record { was_posted = shown.was_posted; uncancelled = shown.uncancelled; unabandoned = shown.unabandoned; unreceived = shown.unreceived })
-        | inr away ↦ subst (λ (l : SeatLists). IsOpen l key) (noted_else core core' v.seat (Taken stream) notes_one engine away) is_open
+            let shown : AwaitsReply (noted (Taken stream) lists) key = subst (λ (l : SeatLists). AwaitsReply l key) (ap (seat_of core') is ∙ mine_now) awaits in
+            subst (λ (k : ℕ). AwaitsReply (seat_of core k) key) (sym is) (record { was_posted = shown.was_posted; uncancelled = shown.uncancelled; unabandoned = shown.unabandoned; unreceived = shown.unreceived })
+        | inr away ↦ subst (λ (l : SeatLists). AwaitsReply l key) (noted_else core core' v.seat (Taken stream) notes_one engine away) awaits
       ]
 
   counts_more : (k : ℕ) → opens_at k u + works_at k v ≡ opens_at k v + works_at k u
   counts_more k =
-      let opens_v : opens_at k v ≡ cond {A = ℕ} (c.seat == k) c.opened_works 0 + 0 = ap (weigh (λ (d : Care). cond (d.seat == k) d.opened_works 0)) main.main.only in
+      let opens_v : opens_at k v ≡ cond {A = ℕ} (c.seat == k) c.opened_works 0 + 0 = ap (weigh (λ (d : Ledger). cond (d.seat == k) d.opened_works 0)) main.main.only in
       let works_v : works_at k v ≡ cond {A = ℕ} (v.seat == k) 1 0 = ap (λ (ws : List Work). cond {A = ℕ} (v.seat == k) (length ws) 0) main.has in
       let seats : cond {A = ℕ} (c.seat == k) (c.opened_works + 2) 0 ≡ cond {A = ℕ} (v.seat == k) (c.opened_works + 2) 0 = ap (λ (n : ℕ). cond {A = ℕ} (n == k) (c.opened_works + 2) 0) main.main.number in
       let seats_v : cond {A = ℕ} (c.seat == k) c.opened_works 0 ≡ cond {A = ℕ} (v.seat == k) c.opened_works 0 = ap (λ (n : ℕ). cond {A = ℕ} (n == k) c.opened_works 0) main.main.number in
@@ -508,10 +515,11 @@ module _ {H : Type 0} (reply_of : List ℕ → Request → Reply) (shape : Shape
   views' : ViewsShow shape word' holds.popped holds.armed holds.records core' (set s.views id u)
   views' =
       let old = holds.views in
-      let tails : (q : ℕ) → q < queues_of shape → (ring_in word q Free).tail ≤ (ring_in word' q Free).tail = λ q lt. let is : word' (Tail q FreeSide) ≡ word (Tail q FreeSide) = sets.others (Tail q FreeSide) lt (λ e. absurd (cc e)) in omega (arith, is) in
+      let tails : (q : ℕ) → q < queues_of core.shape → (ring_in word q Free).tail ≤ (ring_in word' q Free).tail = λ q lt.
+      let is : word' (Tail q FreeSide) ≡ word (Tail q FreeSide) = sets.others (Tail q FreeSide) (subst (λ (sh : Shape). q < queues_of sh) holds.shaped lt) (λ e. absurd (cc e)) in omega (arith, is) in
+      let untagged : (y : FabricView) → Each (StaysUntagged core core') y.kept = kept_untagged core core' (λ q i. (same_item q i).untagged) in
       record {
-        there = of_each (λ y. role_of core y.seat ≤ 1) (λ y. role_of core' y.seat ≤ 1) s.views id u
-            (subst (λ (sh : Shape). role_in sh v.seat ≤ 1) (sym shape_same) (old.there id v at)) (λ y. subst (λ (sh : Shape). role_in sh y.seat ≤ 1) (sym shape_same)) old.there;
+        there = of_fabric core core' s.views id v u at shape_same refl refl old.there;
         items = items_stay core core' s.views id v u at shape_same (λ q i lt. (same_item q i).place) (λ q f. refl) old.items;
         chunks = chunks';
         opens = of_each (OpensNoted core) (OpensNoted core') s.views id u (record { out = (opens_same v (old.opens id v at)).out; back = (opens_same v (old.opens id v at)).back }) opens_same old.opens;
@@ -521,51 +529,81 @@ module _ {H : Type 0} (reply_of : List ℕ → Request → Reply) (shape : Shape
             (record { same = sym request.posted; was = omega (arith, posts_once, same_posted.all stream) }, postings v.records (old.records_known id v at)) (λ y. postings y.records) old.records_known;
         lists = lists_noted core core' (Taken stream) holds.popped holds.popped s.views id v u c (main_note (Taken stream) 2 c) at notes_one main.main.only main.main.number refl refl refl refl
             (λ engine. absurd (omega (arith, engine, role))) (λ k ne. refl) old.lists;
-        lists_there = lists_there core core' s.views id v u at shape_same (λ k. sym (ap (weigh (λ (d : Care). is_number k d.seat)) main.main.only)) old.lists_there;
+        lists_there = lists_there core core' s.views id v u at shape_same (λ k. sym (ap (weigh (λ (d : Ledger). is_number k d.seat)) main.main.only)) old.lists_there;
         works = works';
         counted = counted_stay s.views id v u at
             (λ k. omega (arith, counts_more k)) old.counted;
         idle = of_each (IsIdle shape) (IsIdle shape) s.views id u (λ spent. absurd (cc spent)) (λ y is. is) old.idle;
-        in_work = λ engine key is_open. omega (arith, old.in_work engine key (still_open engine key is_open), sum_set (draw_at key) s.views id v u at, held_none draw_weight key);
-        kept = of_each (KeptAreWorn shape (ring_in word)) (KeptAreWorn shape (ring_in word')) s.views id u (kept_stay shape (ring_in word) (ring_in word') v u tails refl (old.kept id v at)) (λ y. kept_stay shape (ring_in word) (ring_in word') y y tails refl) old.kept;
+        in_work = λ engine key awaits. omega (arith, old.in_work engine key (still_open engine key awaits), sum_set (draw_at key) s.views id v u at, held_none draw_weight key);
+        kept = of_each (KeptAreWorn core (ring_in word)) (KeptAreWorn core' (ring_in word')) s.views id u
+            (kept_stay core core' (ring_in word) (ring_in word') v u shape_same tails (untagged v) refl (old.kept id v at)) (λ y. kept_stay core core' (ring_in word) (ring_in word') y y shape_same tails (untagged y) refl) old.kept;
       }
 
-  pub takes : (parcels : List (Parcel H)) × IsRequest holds.records stream parcels × (length parcels ≡ chunks_for run.size)
-      × IsMachineStep reply_of shape s holds (Settle v.seat 0 item stream)
-      (stepped s (offset_of shape (Tag 0 item)) 0 id carried (with_request item stream run (joined parcels) c v) (takes_all (full_run (first_of run) parcels)))
-  takes =
-      let t : List (ℕ × Option (Parcel H)) = full_run (first_of run) come.parcels in
-      let first_is : first_of it.run ≡ first_of run = ap first_of run_is in
-      let free_now : FreeSlots (segment_chunks * segments_of shape) (map_of word) (homes_after s.homes carried (takes_all t)) =
+  -- ---- slots that the seat carries
+
+  abbrev coming : List (ℕ × Option (Parcel H))
+  coming = full_run (first_of run) come.parcels
+
+  first_is : first_of it.run ≡ first_of run
+  first_is = ap first_of run_is
+
+  long : length come.parcels ≡ chunks_for run.size
+  long = come.long ∙ ap (λ (r : Run). chunks_for r.size) run_is
+
+  taken_now : carried_after carried (takes_all coming) ≡ coming ++ carried
+  taken_now = subst (λ (n : ℕ). carried_after carried (takes_all (full_run n come.parcels)) ≡ full_run n come.parcels ++ carried) first_is come.taken
+
+  carries_now : CarriesSlots (v, carried) → CarriesSlots (u, coming ++ carried)
+  carries_now old f = omega (
+    arith,
+    old f,
+    weigh_numbers f coming carried,
+    ap (weigh f) (full_numbers (first_of run) come.parcels),
+    ap (λ (n : ℕ). weigh f (range_with_len (first_of run) n)) long,
+    weigh-append f (run_numbers run) v.chunks,
+  )
+
+  after_take : IsMachineStep reply_of shape s holds (Settle v.seat 0 item stream) (stepped s (offset_of shape (Tag 0 item)) 0 id carried u (takes_all coming))
+  after_take =
+      let free_now : FreeSlots (segment_chunks * segments_of shape) (map_of word) (homes_after s.homes carried (takes_all coming)) =
       subst (λ (n : ℕ). FreeSlots (segment_chunks * segments_of shape) (map_of word) (homes_after s.homes carried (takes_all (full_run n come.parcels)))) first_is
-      (subst (λ (sh : Shape). FreeSlots (segment_chunks * segments_of sh) (map_of word) (homes_after s.homes carried (takes_all (full_run (first_of it.run) come.parcels)))) shape' come.free) in (
-        come.parcels,
-        request,
-        come.long ∙ ap (λ (r : Run). chunks_for r.size) run_is,
-        record {
-          enabled = link.enabled;
-          after = record {
-            wide = omega (arith, holds.wide, length-set s.words (offset_of shape (Tag 0 item)) 0);
-            core = core';
-            popped = holds.popped;
-            armed = holds.armed;
-            records = holds.records;
-            shaped = shape';
-            keeps = record {
-              sound = link.sound;
-              items = by_role_stays core (Settle v.seat 0 item stream) holds.keeps.sound holds.keeps.items link.enabled;
-              seats = seats_by_role_stay core (Settle v.seat 0 item stream) holds.keeps.seats link.enabled;
-              order = others_in_order holds.popped holds.armed core (Settle v.seat 0 item stream) holds.keeps.sound holds.keeps.order refl link.enabled;
-            };
-            shows = link.shows;
-            notes = notes';
-            views = views';
-            free = λ chunk lt is_set. free_now chunk lt (sym (chunk_stays shape word word' (Tag 0 item) 0 sets (λ k e. absurd (cc e)) chunk lt) ∙ is_set);
-            filled = subst (λ (n : ℕ). ArmedFilled reply_of holds.records core' (homes_after s.homes carried (takes_all (full_run n come.parcels)))) first_is come.filled;
+      (subst (λ (sh : Shape). FreeSlots (segment_chunks * segments_of sh) (map_of word) (homes_after s.homes carried (takes_all (full_run (first_of it.run) come.parcels)))) shape' come.free) in
+      record {
+        enabled = link.enabled;
+        after = record {
+          wide = omega (arith, holds.wide, length-set s.words (offset_of shape (Tag 0 item)) 0);
+          core = core';
+          popped = holds.popped;
+          armed = holds.armed;
+          records = holds.records;
+          shaped = shape';
+          keeps = record {
+            sound = link.sound;
+            items = by_role_stays core (Settle v.seat 0 item stream) holds.keeps.sound holds.keeps.items link.enabled;
+            seats = seats_by_role_stay core (Settle v.seat 0 item stream) holds.keeps.seats link.enabled;
+            order = others_in_order holds.popped holds.armed core (Settle v.seat 0 item stream) holds.keeps.sound holds.keeps.order refl link.enabled;
           };
-          is = refl;
-        },
-      )
+          shows = link.shows;
+          notes = notes';
+          views = views';
+          free = λ chunk lt is_set. free_now chunk lt (sym (chunk_stays shape word word' (Tag 0 item) 0 sets (λ k e. absurd (cc e)) chunk lt) ∙ is_set);
+          filled = subst (λ (n : ℕ). ArmedFilled reply_of holds.records core' (homes_after s.homes carried (takes_all (full_run n come.parcels)))) first_is come.filled;
+        };
+        is = refl;
+      }
+
+  pub takes : RequestComes reply_of shape s holds id v c carried item stream poster run
+  takes = record {
+    parcels = come.parcels;
+    long = long;
+    request = record { asks = request.asks; posted = refl; asked = request.asked; has = request.has; under = request.under; whole = request.posted ∙ request.whole };
+    home = subst (λ (n : ℕ). HaveValuesAtHome n come.parcels s.homes) first_is come.home;
+    valid = subst (λ (n : ℕ). Valid s.homes carried (takes_all (full_run n come.parcels))) first_is come.valid;
+    taken = taken_now;
+    carries = carries_now;
+    step = after_take;
+  }
 
 pub take : (H : Type 0) → TakeLaw H
-take H reply_of shape s holds id v c carried at main worker item stream run_word there mine said some_stream tag = takes reply_of shape s holds id v c carried at main worker item stream run_word there mine said some_stream tag
+take H reply_of shape s holds id v c carried at main worker item stream run_word poster there mine said said_part some_stream tag =
+    takes reply_of shape s holds id v c carried at main worker item stream run_word poster there mine said said_part some_stream tag

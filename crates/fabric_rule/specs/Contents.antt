@@ -9,7 +9,7 @@ use Rattle.request_context.specs.Parcels.{joined}
 use Rattle.request_context.specs.Record.{HasRecord, request_record}
 use Rattle.request_context.specs.declared.asked.Asked.{Asked}
 use Rattle.request_context.specs.declared.piece.Parcel.{Parcel}
-use Rattle.request_context.specs.declared.piece.Parcel.TheVariants.{Ask, Answer}
+use Rattle.request_context.specs.declared.piece.Parcel.TheVariants.{Ask}
 use Rattle.unit_model.specs.Core.{chunk_number, is_last_in, item_of, number_in}
 use Rattle.unit_model.specs.PartOrder.{Each}
 use Rattle.unit_model.specs.Runs.{chunks_for}
@@ -36,6 +36,10 @@ pub record IsRequest {H : Type 0} (records : ℕ → List ℕ) (stream : ℕ) (p
   pub has : HasRecord asked
   pub under : asked.stream ≡ stream
   pub whole : records stream ≡ request_record asked
+
+-- the same, where it isn't said under which record the stream was posted
+abbrev pub IsRecordOf : {H : Type 0} → ℕ → List (Parcel H) → Type 0
+IsRecordOf stream parcels = IsRequest (λ other. joined parcels) stream parcels
 
 -- the parcels are all pieces, in order, of one part of the reply to what was asked under the stream: of the part with the number
 -- that the part word has, which has the last mark exactly where the part is the final one

@@ -1,37 +1,35 @@
 -- What steps do to the parts of the rule, as statements. A step changes the view of one seat, from v to u; what of it and of the
 -- core has changed is a premise, and what isn't named may have changed.
-use Rattle.std.specs.Prelude.{ℕ, ◌+◌, ◌*◌, ◌≡◌, ◌≢◌, ◌≤◌, ◌<◌, ◌⊎◌, ◌==◌, ◌&&◌, List, [], ◌∷◌, length, set, Option}
-use Rattle.std.specs.List.{list_any, range_with_len}
+use Rattle.std.specs.Prelude.{ℕ, ◌+◌, ◌*◌, ◌≡◌, ◌≢◌, ◌≤◌, ◌<◌, ◌⊎◌, ◌==◌, ◌&&◌, true, List, [], ◌∷◌, length, set, Option}
+use Rattle.std.specs.List.{range_with_len}
 use mathlib.Core.Option.{some}
 use lib.ListN.{get_elem?}
 use Rattle.nncq_ring.specs.Words.{Words}
 use Rattle.app_queue.specs.declared.side.Side.{Side}
 use Rattle.app_queue.specs.declared.side.Side.TheVariants.{Free}
 use Rattle.request_context.specs.declared.piece.Parcel.{Parcel}
-use Rattle.unit_model.specs.Core.{item_of, owner_of, role_of, seat_of}
+use Rattle.unit_model.specs.Core.{item_of, owner_of, role_of}
 use Rattle.unit_model.specs.Effects.{noted}
 use Rattle.unit_model.specs.Holding.{items_of, IsInRun}
 use Rattle.unit_model.specs.Limits.{segment_chunks}
 use Rattle.unit_model.specs.Lists.{change_at}
 use Rattle.unit_model.specs.PartCounts.{of_stream}
+use Rattle.unit_model.specs.PartOrder.{Each}
 use Rattle.unit_model.specs.Weights.{weigh, times}
 use Rattle.unit_model.specs.declared.machine.Core.{Core}
-use Rattle.unit_model.specs.declared.machine.Item.{Item}
 use Rattle.unit_model.specs.declared.machine.Note.{Note}
 use Rattle.unit_model.specs.declared.machine.Note.TheVariants.{Drawn, Posted, Cancelled, Abandoned, Received, Taken, Sent, Closed}
-use Rattle.unit_model.specs.declared.machine.Owner.{Owner}
-use Rattle.unit_model.specs.declared.machine.Owner.TheVariants.{Seat}
 use Rattle.unit_model.specs.declared.machine.Seat.{Seat as SeatLists}
-use Rattle.unit_model.specs.declared.machine.Whereabouts.TheVariants.{WithSeat}
-use Rattle.unit_model.specs.declared.shape.Shape.{Shape}
 use Rattle.unit_types.specs.declared.message.Reply.{Reply}
 use Rattle.unit_types.specs.declared.message.Request.{Request}
 use Rattle.fabric_words.specs.Places.{HasItem, queues_of, segments_of}
 use Rattle.fabric_rule.specs.Contents.{ArmedFilled}
-use Rattle.fabric_rule.specs.Parts.{OfEach, ItemsHeld, ChunksHeld, SeatsThere, OpensNoted, PostsArmed, StreamsLatest, RecordsKnown, KeptAreWorn, ListsShown, ListsThere, WorksShown, WorksCounted, IsIdle, PostsInWork, hand_weight, owner_weight}
+use Rattle.fabric_rule.specs.Parts.{OfEach, ItemsHeld, ChunksHeld, IsOfFabric, PostsArmed, StreamsLatest, RecordsKnown, KeptAreWorn, ListsShown, ListsThere, WorksShown, WorksCounted, PostsInWork, hand_weight, has_last, owner_weight}
 use Rattle.fabric_rule.specs.Views.{hand_at, chunks_at, lists_at, opens_at, works_at}
-use Rattle.fabric_rule.specs.declared.view.Care.{Care}
+use Rattle.fabric_rule.specs.declared.view.ArmNote.{ArmNote}
+use Rattle.fabric_rule.specs.declared.view.Ledger.{Ledger}
 use Rattle.fabric_rule.specs.declared.view.FabricView.{FabricView}
+use Rattle.fabric_rule.specs.declared.view.KeptItem.{KeptItem}
 
 -- ---- who holds what
 
@@ -77,6 +75,14 @@ ChunksMoveLaw = (core core' : Core) (views : List FabricView) (id : ℕ) (v u : 
 
 -- ---- what each view says
 
+-- a step leaves the shape, and the seat is the same one
+abbrev pub OfFabricStayLaw : Type 0
+OfFabricStayLaw = (core core' : Core) (views : List FabricView) (id : ℕ) (v u : FabricView)
+    → get_elem? views id ≡ some v → core'.shape ≡ core.shape
+    → u.shape ≡ v.shape → u.seat ≡ v.seat
+    → OfEach (IsOfFabric core) views
+    → OfEach (IsOfFabric core') (set views id u)
+
 -- a view's part, where it is so of the new view, and what was so of the others still is
 abbrev pub OfEachLaw : (P P' : FabricView → Type 0) → Type 0
 OfEachLaw P P' = (views : List FabricView) (id : ℕ) (u : FabricView)
@@ -113,7 +119,7 @@ RecordsStayLaw = (core core' : Core) (records : ℕ → List ℕ) (v u : FabricV
 
 abbrev pub ListsStayLaw : Type 0
 ListsStayLaw = (core core' : Core) (popped : ℕ → List ℕ) (views : List FabricView) (id : ℕ) (v u : FabricView)
-    → get_elem? views id ≡ some v → SameLists core core' → u.care ≡ v.care
+    → get_elem? views id ≡ some v → SameLists core core' → u.ledgers ≡ v.ledgers
     → ListsShown core popped views
     → ListsShown core' popped (set views id u)
 
@@ -146,13 +152,19 @@ InWorkStayLaw = (core core' : Core) (views : List FabricView) (id : ℕ) (v u : 
 
 -- ---- what is kept
 
--- tails don't fall
+abbrev pub StaysUntagged : Core → Core → KeptItem → Type 0
+StaysUntagged core core' kept =
+    (item_of core kept.queue kept.item).tag ≡ 0 → (item_of core' kept.queue kept.item).tag ≡ 0
+
+-- tails don't fall, and what is kept gets no tag
 abbrev pub KeptStayLaw : Type 0
-KeptStayLaw = (shape : Shape) (ring ring' : ℕ → Side → Words) (v u : FabricView)
-    → ((queue : ℕ) → queue < queues_of shape → (ring queue Free).tail ≤ (ring' queue Free).tail)
+KeptStayLaw = (core core' : Core) (ring ring' : ℕ → Side → Words) (v u : FabricView)
+    → core'.shape ≡ core.shape
+    → ((queue : ℕ) → queue < queues_of core.shape → (ring queue Free).tail ≤ (ring' queue Free).tail)
+    → Each (StaysUntagged core core') v.kept
     → u.kept ≡ v.kept
-    → KeptAreWorn shape ring v
-    → KeptAreWorn shape ring' u
+    → KeptAreWorn core ring v
+    → KeptAreWorn core' ring' u
 
 -- ---- the parcels of messages
 
@@ -188,11 +200,28 @@ pub record NotesOne (core core' : Core) (seat : ℕ) (note : Note) : Type 0 wher
   pub inside : seat < length core.seats
   pub seats : core'.seats ≡ change_at seat (noted note) core.seats
 
+-- ---- where an item is armed
+
+abbrev pub IsBefore : ℕ → ℕ → ℕ → ArmNote → Type 0
+IsBefore queue item place a = (a.queue == queue && a.item == item) ≡ true → a.place < place
+
+-- The stream of an item that is armed is that of its new arm, which has the greatest get place.
+abbrev pub StreamsArmLaw : Type 0
+StreamsArmLaw = (core core' : Core) (views : List FabricView) (id : ℕ) (v u : FabricView) (a : ArmNote)
+    → get_elem? views id ≡ some v → core'.shape ≡ core.shape → u.arms ≡ a ∷ v.arms
+    → ((k : ℕ) (y : FabricView) → get_elem? views k ≡ some y → Each (IsBefore a.queue a.item a.place) y.arms)
+    → (item_of core' a.queue a.item).stream ≡ a.stream
+    → ((queue item : ℕ) → (queue ≢ a.queue) ⊎ (item ≢ a.item) → (item_of core' queue item).stream ≡ (item_of core queue item).stream)
+    → StreamsLatest core views
+    → StreamsLatest core' (set views id u)
+
+-- ---- where one seat's lists have a note more
+
 -- The main view of that number has the note too.
 abbrev pub ListsNotedLaw : Type 0
-ListsNotedLaw = (core core' : Core) (note : Note) (popped popped' : ℕ → List ℕ) (views : List FabricView) (id : ℕ) (v u : FabricView) (c c' : Care)
+ListsNotedLaw = (core core' : Core) (note : Note) (popped popped' : ℕ → List ℕ) (views : List FabricView) (id : ℕ) (v u : FabricView) (c c' : Ledger)
     → get_elem? views id ≡ some v → NotesOne core core' v.seat note
-    → v.care ≡ c ∷ [] → c.seat ≡ v.seat → u.care ≡ c' ∷ []
+    → v.ledgers ≡ c ∷ [] → c.seat ≡ v.seat → u.ledgers ≡ c' ∷ []
     → c'.seat ≡ c.seat → c'.lists ≡ noted note c.lists → c'.refusals ≡ c.refusals
     → (role_of core v.seat ≡ 0 → popped' v.seat ≡ c'.popped)
     → ((number : ℕ) → number ≢ v.seat → popped' number ≡ popped number)
@@ -208,8 +237,8 @@ pub record SameOf (stream : ℕ) (lists lists' : SeatLists) : Type 0 where
   pub taken_as : times stream lists'.taken ≡ times stream lists.taken
   pub closed_as : times stream lists'.closed ≡ times stream lists.closed
   pub sent_as : weigh (of_stream stream) lists'.sent ≡ weigh (of_stream stream) lists.sent
-  pub finished_as : list_any (λ part. part.stream == stream && part.last) lists'.sent ≡ list_any (λ part. part.stream == stream && part.last) lists.sent
-  pub received_as : list_any (λ part. part.stream == stream && part.last) lists'.received ≡ list_any (λ part. part.stream == stream && part.last) lists.received
+  pub finished_as : has_last stream lists'.sent ≡ has_last stream lists.sent
+  pub received_as : has_last stream lists'.received ≡ has_last stream lists.received
 
 -- A note is of one stream: what lists say of another one stays.
 abbrev pub NotedSameLaw : Type 0

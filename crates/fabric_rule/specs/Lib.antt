@@ -1,8 +1,10 @@
+pub mod Consequences
 pub mod Contents
 pub mod CoreOf
 pub mod FrameLaws
 pub mod Hands
 pub mod Keyed
+pub mod Looks
 pub mod Opening
 pub mod Parts
 pub mod Passing

@@ -4,12 +4,12 @@ use Rattle.std.specs.List.{range_with_len}
 use Rattle.unit_model.specs.Core.{no_seat}
 use Rattle.unit_model.specs.declared.shape.Shape.{Shape}
 use Rattle.fabric_rule.specs.Views.{empty}
-use Rattle.fabric_rule.specs.declared.view.Care.{Care}
+use Rattle.fabric_rule.specs.declared.view.Ledger.{Ledger}
 use Rattle.fabric_rule.specs.declared.view.FabricView.{FabricView}
 
 -- the lists of a seat that has done nothing
-abbrev pub fresh_care : ℕ → Care
-fresh_care seat = record {
+abbrev pub fresh_ledger : ℕ → Ledger
+fresh_ledger seat = record {
   seat = seat;
   lists = no_seat;
   refusals = [];
@@ -19,12 +19,12 @@ fresh_care seat = record {
 
 abbrev pub first_view : Shape → FabricView
 first_view shape =
-    record empty { care = map fresh_care (range_with_len 0 (shape.engines + shape.workers)) }
+    record (empty shape) { ledgers = map fresh_ledger (range_with_len 0 (shape.engines + shape.workers)) }
 
 -- the lists of a main seat
-abbrev pub first_care : List Care → Care
-first_care [] = fresh_care 0
-first_care (c ∷ cs) = c
+abbrev pub first_ledger : List Ledger → Ledger
+first_ledger [] = fresh_ledger 0
+first_ledger (c ∷ cs) = c
 
-abbrev pub care_of : FabricView → Care
-care_of v = first_care v.care
+abbrev pub ledger_of : FabricView → Ledger
+ledger_of v = first_ledger v.ledgers

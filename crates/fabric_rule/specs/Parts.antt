@@ -1,6 +1,6 @@
 -- The parts of the rule: each is one sentence on words, on the machine's core, on slots and on views. Who holds what is said against
 -- the core and not against words; the words are those that show the core.
-use Rattle.std.specs.Prelude.{ℕ, ◌+◌, ◌*◌, ◌-◌, ◌/◌, ◌^◌, ◌≡◌, ◌≢◌, ◌≤◌, ◌<◌, ◌⊎◌, ◌==◌, ◌&&◌, true, false, cond, List, [], ◌∷◌}
+use Rattle.std.specs.Prelude.{ℕ, ◌+◌, ◌*◌, ◌/◌, ◌^◌, ◌≡◌, ◌≤◌, ◌<◌, ◌⊎◌, ◌==◌, ◌&&◌, Bool, false, cond, List, [], ◌∷◌}
 use Rattle.std.specs.List.{list_any}
 use mathlib.Core.Option.{some}
 use lib.ListN.{get_elem?}
@@ -18,6 +18,7 @@ use Rattle.unit_model.specs.Weights.{weigh, below, times}
 use Rattle.unit_model.specs.declared.machine.Core.{Core}
 use Rattle.unit_model.specs.declared.machine.Owner.{Owner}
 use Rattle.unit_model.specs.declared.machine.Owner.TheVariants.{Free as Unowned, Seat as OfSeat, Message as OfMessage}
+use Rattle.unit_model.specs.declared.machine.Part.{Part}
 use Rattle.unit_model.specs.declared.machine.Seat.{Seat as SeatLists}
 use Rattle.unit_model.specs.declared.machine.Whereabouts.{Whereabouts}
 use Rattle.unit_model.specs.declared.machine.Whereabouts.TheVariants.{InFreeList, InLine, WithSeat}
@@ -29,8 +30,8 @@ use Rattle.fabric_rule.specs.declared.cause.Cause.{Cause}
 use Rattle.fabric_rule.specs.declared.cause.Cause.TheVariants.{NoChunks, NoItem, Worn}
 use Rattle.fabric_rule.specs.declared.cause.Refusal.{Refusal}
 use Rattle.fabric_rule.specs.declared.event.Segments.TheVariants.{Out, Back}
-use Rattle.fabric_rule.specs.declared.view.Arming.{Arming}
-use Rattle.fabric_rule.specs.declared.view.Care.{Care}
+use Rattle.fabric_rule.specs.declared.view.ArmNote.{ArmNote}
+use Rattle.fabric_rule.specs.declared.view.Ledger.{Ledger}
 use Rattle.fabric_rule.specs.declared.view.FabricView.{FabricView}
 use Rattle.fabric_rule.specs.declared.view.KeptItem.{KeptItem}
 use Rattle.fabric_rule.specs.declared.view.Posting.{Posting}
@@ -70,9 +71,10 @@ ChunksHeld core views =
 
 -- ---- notes
 
--- each view is of a seat that is there
-abbrev pub SeatsThere : Core → List FabricView → Type 0
-SeatsThere core views = OfEach (λ v. role_of core v.seat ≤ 1) views
+-- the view is of this fabric, and of a seat that is there
+pub record IsOfFabric (core : Core) (v : FabricView) : Type 0 where
+  pub shape : v.shape ≡ core.shape
+  pub role : role_of core v.seat ≤ 1
 
 -- no view has seen more segments open than are
 pub record OpensNoted (core : Core) (v : FabricView) : Type 0 where
@@ -97,13 +99,15 @@ pub record IsPosting (core : Core) (records : ℕ → List ℕ) (p : Posting) : 
 abbrev pub RecordsKnown : Core → (ℕ → List ℕ) → FabricView → Type 0
 RecordsKnown core records v = Each (IsPosting core records) v.records
 
--- an item is kept only where its free ring's tail has come to 2^62
-pub record IsWornOut (shape : Shape) (ring : ℕ → Side → Words) (kept : KeptItem) : Type 0 where
-  pub there : kept.queue < queues_of shape
+-- An item is kept only where the tail of the free ring that it should go to, that of its own queue, has come to 2^62. It has no
+-- tag, so it holds no chunks.
+pub record IsWornOut (core : Core) (ring : ℕ → Side → Words) (kept : KeptItem) : Type 0 where
+  pub there : kept.queue < queues_of core.shape
   pub worn : 2 ^ 62 ≤ (ring kept.queue Free).tail
+  pub untagged : (item_of core kept.queue kept.item).tag ≡ 0
 
-abbrev pub KeptAreWorn : Shape → (ℕ → Side → Words) → FabricView → Type 0
-KeptAreWorn shape ring v = Each (IsWornOut shape ring) v.kept
+abbrev pub KeptAreWorn : Core → (ℕ → Side → Words) → FabricView → Type 0
+KeptAreWorn core ring v = Each (IsWornOut core ring) v.kept
 
 -- ---- the lists of a seat number
 
@@ -129,14 +133,14 @@ IsRefused core seat refusal = IsCause core seat refusal.stream refusal.cause
 
 -- A seat's lists are those of the machine, its refusals have their causes, and what an engine's seat popped is what the rule says
 -- of it.
-pub record IsInCare (core : Core) (popped : ℕ → List ℕ) (c : Care) : Type 0 where
+pub record IsTrueLedger (core : Core) (popped : ℕ → List ℕ) (c : Ledger) : Type 0 where
   pub lists : c.lists ≡ seat_of core c.seat
   pub refused : Each (IsRefused core c.seat) c.refusals
   pub popped_item : role_of core c.seat ≡ 0 → popped c.seat ≡ c.popped
 
 -- of those of a number, where the view has them
 abbrev pub ShowsLists : Core → (ℕ → List ℕ) → ℕ → FabricView → Type 0
-ShowsLists core popped number v = Each (λ (c : Care). c.seat ≡ number → IsInCare core popped c) v.care
+ShowsLists core popped number v = Each (λ (c : Ledger). c.seat ≡ number → IsTrueLedger core popped c) v.ledgers
 
 -- The lists of each number are with one view, and they are the machine's.
 abbrev pub ListsShown : Core → (ℕ → List ℕ) → List FabricView → Type 0
@@ -156,39 +160,45 @@ pub record KnowsDrawn (lists : SeatLists) (stream : ℕ) : Type 0 where
   pub unposted : times stream lists.posted ≡ 0
 
 -- a stream that it posted, and neither cancelled nor abandoned; its only arm is of this item, and the view has it
-pub record KnowsPosted (lists : SeatLists) (arms : List Arming) (stream item : ℕ) : Type 0 where
+pub record KnowsPosted (lists : SeatLists) (arms : List ArmNote) (stream item : ℕ) : Type 0 where
   pub was_posted : 1 ≤ times stream lists.posted
   pub uncancelled : times stream lists.cancelled ≡ 0
   pub unabandoned : times stream lists.abandoned ≡ 0
   pub arm : 1 ≤ posts_of stream item arms
 
--- a stream that it took and didn't close, with how many of its parts it sent, none of them the last, and none of them armed and
--- not pushed
-pub record KnowsTaken (lists : SeatLists) (armed : ℕ → List ℕ) (stream parts : ℕ) : Type 0 where
+-- there is a last part of the stream among these
+abbrev pub has_last : ℕ → List Part → Bool
+has_last stream parts = list_any (λ part. part.stream == stream && part.last) parts
+
+-- A stream that it took and didn't close, with how many of its parts it sent, none of them the last, and none of them armed and not
+-- pushed. `poster` has the lists of the engine that posted it.
+pub record KnowsTaken (lists poster : SeatLists) (armed : ℕ → List ℕ) (stream parts : ℕ) : Type 0 where
   pub took : 1 ≤ times stream lists.taken
   pub unclosed : times stream lists.closed ≡ 0
+  pub to : 1 ≤ times stream poster.posted
   pub parts_out : weigh (of_stream stream) lists.sent ≡ parts
-  pub unfinished : list_any (λ part. part.stream == stream && part.last) lists.sent ≡ false
+  pub unfinished : has_last stream lists.sent ≡ false
   pub nothing : armed stream ≡ []
 
--- a stream that it took and didn't close, of whose part it armed this item of its poster's queue, and didn't push it; `poster` has
--- the lists of that engine
-pub record KnowsSending (lists poster : SeatLists) (armed : ℕ → List ℕ) (stream queue item : ℕ) : Type 0 where
+-- A stream that it took and didn't close, with how many of its parts it sent, and whether the last is among them. The newest is armed
+-- with this item, and not pushed. `poster` has the lists of the engine that posted it.
+pub record KnowsSending (lists poster : SeatLists) (armed : ℕ → List ℕ) (stream parts : ℕ) (last : Bool) (item : ℕ) : Type 0 where
   pub took : 1 ≤ times stream lists.taken
   pub unclosed : times stream lists.closed ≡ 0
-  pub back : queue ≢ 0
   pub to : 1 ≤ times stream poster.posted
+  pub parts_out : weigh (of_stream stream) lists.sent ≡ parts
+  pub finished : has_last stream lists.sent ≡ last
   pub one : armed stream ≡ item ∷ []
 
 -- what a seat of this number, which made these arms, knows of a work
-abbrev pub KnowsWork : Core → (ℕ → List ℕ) → ℕ → List Arming → Work → Type 0
+abbrev pub KnowsWork : Core → (ℕ → List ℕ) → ℕ → List ArmNote → Work → Type 0
 KnowsWork core armed seat arms (Drawn stream) = KnowsDrawn (seat_of core seat) stream
 KnowsWork core armed seat arms (Posted stream item) =
     KnowsPosted (seat_of core seat) arms stream item
-KnowsWork core armed seat arms (Taken stream parts) =
-    KnowsTaken (seat_of core seat) armed stream parts
-KnowsWork core armed seat arms (Sending stream queue item) =
-    KnowsSending (seat_of core seat) (seat_of core (queue - 1)) armed stream queue item
+KnowsWork core armed seat arms (Taken stream poster parts) =
+    KnowsTaken (seat_of core seat) (seat_of core poster) armed stream parts
+KnowsWork core armed seat arms (Sending stream poster parts last item) =
+    KnowsSending (seat_of core seat) (seat_of core poster) armed stream parts last item
 KnowsWork core armed seat arms Holding = Unit {0}
 
 -- of the works that weigh by this weight
@@ -205,22 +215,23 @@ pub record WorksShown (core : Core) (armed : ℕ → List ℕ) (views : List Fab
 abbrev pub WorksCounted : List FabricView → Type 0
 WorksCounted views = (number : ℕ) → weigh (opens_at number) views ≡ weigh (works_at number) views
 
--- a view without work has no chunk, and no item but those that it keeps and the one that it just popped
-pub record IsAtRest (shape : Shape) (v : FabricView) : Type 0 where
+-- A view without work has no chunk, and no item but those that it keeps and the one that it just popped. So an item is got from a
+-- free ring by views with works alone.
+pub record IsEmptyHanded (shape : Shape) (v : FabricView) : Type 0 where
   pub chunks : v.chunks ≡ []
   pub items : (queue : ℕ) (f : ℕ → ℕ) → held_at queue f v ≡ popped_at shape queue f v
 
 abbrev pub IsIdle : Shape → FabricView → Type 0
-IsIdle shape v = v.works ≡ [] → IsAtRest shape v
+IsIdle shape v = v.works ≡ [] → IsEmptyHanded shape v
 
 -- of an engine's lists: a posted stream that is neither cancelled nor abandoned, and whose last part it hasn't received
-pub record IsOpen (lists : SeatLists) (stream : ℕ) : Type 0 where
+pub record AwaitsReply (lists : SeatLists) (stream : ℕ) : Type 0 where
   pub was_posted : 1 ≤ times stream lists.posted
   pub uncancelled : times stream lists.cancelled ≡ 0
   pub unabandoned : times stream lists.abandoned ≡ 0
-  pub unreceived : list_any (λ part. part.stream == stream && part.last) lists.received ≡ false
+  pub unreceived : has_last stream lists.received ≡ false
 
 -- Each of those is in one view's works, that of its poster.
 abbrev pub PostsInWork : Core → List FabricView → Type 0
 PostsInWork core views =
-    (engine stream : ℕ) → IsOpen (seat_of core engine) stream → 1 ≤ weigh (draw_at stream) views
+    (engine stream : ℕ) → AwaitsReply (seat_of core engine) stream → 1 ≤ weigh (draw_at stream) views

@@ -4,7 +4,7 @@ use Rattle.atomic_table.specs.Table.{Valid, carried_after, homes_after}
 use Rattle.carried_slots.specs.Acts.{becomes, takes_all}
 use Rattle.carried_slots.specs.Carried.{numbers, IsDistinct}
 use Rattle.carried_slots.specs.FreeSlots.{FreeSlots}
-use Rattle.carried_slots.specs.RunLaws.{full_run}
+use Rattle.carried_slots.specs.RunLaws.{HaveValuesAtHome, full_run}
 use Rattle.carried_slots.specs.RunSlots.{HasValues, run_gone}
 use Rattle.request_context.specs.declared.piece.Parcel.{Parcel}
 use Rattle.unit_model.specs.Core.{chunk_number, item_of, owner_of}
@@ -40,6 +40,7 @@ pub record SlotsCome {H : Type 0} (reply_of : List ℕ → Request → Reply) (r
   pub parcels : List (Parcel H)
   pub long : length parcels ≡ chunks_for item.run.size
   pub carries : Carries reply_of records queue item.tag item.part parcels
+  pub home : HaveValuesAtHome (first_of item.run) parcels homes
   pub valid : Valid homes carried (takes_all (full_run (first_of item.run) parcels))
   pub taken : carried_after carried (takes_all (full_run (first_of item.run) parcels)) ≡ full_run (first_of item.run) parcels ++ carried
   pub free : FreeSlots (segment_chunks * segments_of core'.shape) (map_of word)

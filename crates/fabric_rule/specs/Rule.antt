@@ -19,7 +19,7 @@ use Rattle.fabric_words.specs.Shown.{Shows}
 use Rattle.fabric_words.specs.declared.place.Place.{Place}
 use Rattle.carried_slots.specs.FreeSlots.{FreeSlots}
 use Rattle.fabric_rule.specs.Contents.{ArmedFilled}
-use Rattle.fabric_rule.specs.Parts.{OfEach, ItemsHeld, ChunksHeld, SeatsThere, OpensNoted, PostsArmed, StreamsLatest, RecordsKnown, KeptAreWorn, ListsShown, ListsThere, WorksShown, WorksCounted, IsIdle, PostsInWork}
+use Rattle.fabric_rule.specs.Parts.{OfEach, ItemsHeld, ChunksHeld, IsOfFabric, OpensNoted, PostsArmed, StreamsLatest, RecordsKnown, KeptAreWorn, ListsShown, ListsThere, WorksShown, WorksCounted, IsIdle, PostsInWork}
 use Rattle.fabric_rule.specs.Views.{queues_in, ring_in, tag_in, run_in, part_in, log_at, held_at, got_at, arms_at, words_in, tag_said, tag_kept, run_said, part_said}
 use Rattle.fabric_rule.specs.declared.view.FabricView.{FabricView}
 
@@ -47,7 +47,7 @@ pub record NotesAreTrue (shape : Shape) (word : Place → ℕ) (views : List Fab
 
 -- what views hold and have done, against the core
 pub record ViewsShow (shape : Shape) (word : Place → ℕ) (popped armed records : ℕ → List ℕ) (core : Core) (views : List FabricView) : Type 0 where
-  pub there : SeatsThere core views
+  pub there : OfEach (IsOfFabric core) views
   pub items : ItemsHeld core views
   pub chunks : ChunksHeld core views
   pub opens : OfEach (OpensNoted core) views
@@ -60,7 +60,7 @@ pub record ViewsShow (shape : Shape) (word : Place → ℕ) (popped armed record
   pub counted : WorksCounted views
   pub idle : OfEach (IsIdle shape) views
   pub in_work : PostsInWork core views
-  pub kept : OfEach (KeptAreWorn shape (ring_in word)) views
+  pub kept : OfEach (KeptAreWorn core (ring_in word)) views
 
 -- ---- the rule
 

@@ -15,7 +15,7 @@ use Rattle.app_queue.specs.declared.side.Side.{Side}
 use Rattle.app_queue.specs.declared.side.Side.TheVariants.{Free, Line}
 use Rattle.app_queue.specs.declared.view.ItemEvent.{ItemEvent}
 use Rattle.unit_model.specs.Holding.{items_of}
-use Rattle.fabric_words.specs.Places.{queues_of, ring_of, map_of}
+use Rattle.fabric_words.specs.Places.{queues_of, ring_of}
 use Rattle.fabric_words.specs.declared.place.Place.{Place}
 use Rattle.fabric_words.specs.declared.place.Place.TheVariants.{Tag, RunWord, PartWord}
 use Rattle.fabric_words.specs.declared.place.Side.{Side as WordSide}
@@ -24,8 +24,8 @@ use Rattle.fabric_rule.specs.declared.event.FabricEvent.{FabricEvent}
 use Rattle.fabric_rule.specs.declared.event.FabricEvent.TheVariants.{SawNext, AtRing, AtItem, AtMap}
 use Rattle.fabric_rule.specs.declared.event.Segments.{Segments}
 use Rattle.fabric_rule.specs.declared.event.Segments.TheVariants.{Out, Back}
-use Rattle.fabric_rule.specs.declared.view.Arming.{Arming}
-use Rattle.fabric_rule.specs.declared.view.Care.{Care}
+use Rattle.fabric_rule.specs.declared.view.ArmNote.{ArmNote}
+use Rattle.fabric_rule.specs.declared.view.Ledger.{Ledger}
 use Rattle.fabric_rule.specs.declared.view.FabricView.{FabricView}
 use Rattle.fabric_rule.specs.declared.view.HeldItem.{HeldItem}
 use Rattle.fabric_rule.specs.declared.view.KeptItem.{KeptItem}
@@ -87,11 +87,11 @@ item_log queue (AtRing q side e ∷ es) =
 item_log queue (AtItem q e ∷ es) = cond (q == queue) (e ∷ item_log queue es) (item_log queue es)
 item_log queue (AtMap m e ∷ es) = item_log queue es
 
-abbrev pub is_of : Segments → Segments → Bool
-is_of Out Out = true
-is_of Out Back = false
-is_of Back Out = false
-is_of Back Back = true
+abbrev pub is_same_segments : Segments → Segments → Bool
+is_same_segments Out Out = true
+is_same_segments Out Back = false
+is_same_segments Back Out = false
+is_same_segments Back Back = true
 
 -- what it did at the map of these segments
 abbrev pub map_log : Segments → List FabricEvent → List MapEvent
@@ -100,7 +100,7 @@ map_log segments (SawNext stream ∷ es) = map_log segments es
 map_log segments (AtRing q side e ∷ es) = map_log segments es
 map_log segments (AtItem q e ∷ es) = map_log segments es
 map_log segments (AtMap m e ∷ es) =
-    cond (is_of m segments) (e ∷ map_log segments es) (map_log segments es)
+    cond (is_same_segments m segments) (e ∷ map_log segments es) (map_log segments es)
 
 abbrev pub log_at : ℕ → Side → FabricView → List RingEvent
 log_at queue side v = ring_log queue side v.log
@@ -156,7 +156,7 @@ got_at queue v item place =
 abbrev pub chunks_at : (ℕ → ℕ → ℕ) → FabricView → ℕ
 chunks_at f v = weigh (f v.seat) v.chunks
 
-abbrev pub arm_from : Arming → Arm
+abbrev pub arm_from : ArmNote → Arm
 arm_from a = record {
   item = a.item;
   place = a.place;
@@ -165,7 +165,7 @@ arm_from a = record {
   part = a.part;
 }
 
-abbrev pub arms_among : ℕ → List Arming → List Arm
+abbrev pub arms_among : ℕ → List ArmNote → List Arm
 arms_among queue [] = []
 arms_among queue (a ∷ rest) =
     cond (a.queue == queue) (arm_from a ∷ arms_among queue rest) (arms_among queue rest)
@@ -178,29 +178,29 @@ arms_at queue v = arms_among queue v.arms
 abbrev pub posts_at : ℕ → FabricView → ℕ
 posts_at stream v = weigh (λ (a : Arm). is_number stream a.stream) (arms_at 0 v)
 
-abbrev pub posts_of : ℕ → ℕ → List Arming → ℕ
+abbrev pub posts_of : ℕ → ℕ → List ArmNote → ℕ
 posts_of stream item arms =
     weigh (λ (a : Arm). one_if (a.stream == stream && a.item == item)) (arms_among 0 arms)
 
 -- the later one of two arms
-abbrev pub later_arm : Arming → Option Arming → Option Arming
+abbrev pub later_arm : ArmNote → Option ArmNote → Option ArmNote
 later_arm a None = Some a
 later_arm a (Some b) = if nat_lt a.place b.place then Some b else Some a
 
 -- of an item's arms the one with the greatest get place
-abbrev pub latest_arm : ℕ → ℕ → List Arming → Option Arming
+abbrev pub latest_arm : ℕ → ℕ → List ArmNote → Option ArmNote
 latest_arm queue item [] = None
 latest_arm queue item (a ∷ rest) =
     if a.queue == queue && a.item == item
     then later_arm a (latest_arm queue item rest)
     else latest_arm queue item rest
 
-abbrev pub stream_of_arm : Option Arming → ℕ
+abbrev pub stream_of_arm : Option ArmNote → ℕ
 stream_of_arm None = 0
 stream_of_arm (Some a) = a.stream
 
 -- the arms of all views
-abbrev pub all_arms : List FabricView → List Arming
+abbrev pub all_arms : List FabricView → List ArmNote
 all_arms views = flat_map (λ (v : FabricView). v.arms) views
 
 -- the stream of an item's latest arm over all views, 0 without one
@@ -211,11 +211,11 @@ last_stream views queue item = stream_of_arm (latest_arm queue item (all_arms vi
 
 -- how often the view has the lists of this seat number
 abbrev pub lists_at : ℕ → FabricView → ℕ
-lists_at number v = weigh (λ (c : Care). is_number number c.seat) v.care
+lists_at number v = weigh (λ (c : Ledger). is_number number c.seat) v.ledgers
 
 -- how many open works its lists count for this number
 abbrev pub opens_at : ℕ → FabricView → ℕ
-opens_at number v = weigh (λ (c : Care). cond (c.seat == number) c.opened_works 0) v.care
+opens_at number v = weigh (λ (c : Ledger). cond (c.seat == number) c.opened_works 0) v.ledgers
 
 -- and how many works of this number it has
 abbrev pub works_at : ℕ → FabricView → ℕ
@@ -225,15 +225,15 @@ works_at number v = cond (v.seat == number) (length v.works) 0
 abbrev pub draw_weight : ℕ → Work → ℕ
 draw_weight stream (Drawn s) = is_number stream s
 draw_weight stream (Posted s item) = is_number stream s
-draw_weight stream (Taken s sent) = 0
-draw_weight stream (Sending s queue item) = 0
+draw_weight stream (Taken s poster parts) = 0
+draw_weight stream (Sending s poster parts last item) = 0
 draw_weight stream Holding = 0
 
 abbrev pub take_weight : ℕ → Work → ℕ
 take_weight stream (Drawn s) = 0
 take_weight stream (Posted s item) = 0
-take_weight stream (Taken s sent) = is_number stream s
-take_weight stream (Sending s queue item) = is_number stream s
+take_weight stream (Taken s poster parts) = is_number stream s
+take_weight stream (Sending s poster parts last item) = is_number stream s
 take_weight stream Holding = 0
 
 abbrev pub draw_at : ℕ → FabricView → ℕ
@@ -249,7 +249,7 @@ emptied_by shape number = cond (role_in shape number == 0) (1 + number) 0
 -- what the items of a queue weigh that main seats popped and have neither settled nor handed on
 abbrev pub popped_at : Shape → ℕ → (ℕ → ℕ) → FabricView → ℕ
 popped_at shape queue f v =
-    weigh (λ (c : Care). cond (emptied_by shape c.seat == queue) (weigh f c.popped) 0) v.care
+    weigh (λ (c : Ledger). cond (emptied_by shape c.seat == queue) (weigh f c.popped) 0) v.ledgers
 
 -- ---- views
 
@@ -257,11 +257,12 @@ popped_at shape queue f v =
 abbrev pub logged : FabricEvent → FabricView → FabricView
 logged e v = record v { log = e ∷ v.log }
 
--- nothing held, and nothing done
-abbrev pub empty : FabricView
-empty = record {
+-- nothing held, and nothing done, in a fabric of this shape
+abbrev pub empty : Shape → FabricView
+empty shape = record {
+  shape = shape;
   seat = 0;
-  care = [];
+  ledgers = [];
   works = [];
   chunks = [];
   items = [];

@@ -5,15 +5,19 @@
 mod cause;
 mod event;
 mod laws;
+mod look;
 mod table;
 mod view;
 
 pub use cause::{Cause, Refusal};
 pub use event::{FabricEvent, Segments};
 pub use laws::{
-    a_look_is_no_step, a_pop_of_the_line_is_a_step, a_take_is_a_step, each_item_is_in_one_place,
-    lists_and_works_stay, lists_are_noted, slots_pass_with_tags, what_is_held_is_shown,
-    what_one_view_says_stays,
+    a_got_item_is_a_step, a_helped_tail_is_no_step, a_load_is_no_step,
+    a_look_at_an_item_is_no_step, a_look_is_no_step, a_pop_is_a_step, a_take_is_a_step,
+    an_arm_is_a_step, an_armed_part_is_in_one_place, an_entry_is_a_step, each_item_is_in_one_place,
+    lists_and_works_stay, lists_are_noted, rings_have_each_item_once, slots_pass_with_tags,
+    the_core_is_that_of_words_and_views, what_is_held_is_shown, what_one_view_says_stays,
 };
-pub use table::{FabricRule, FabricTable, Tells};
-pub use view::{Arming, Care, FabricView, HeldItem, KeptItem, Posting, Work};
+pub use look::Look;
+pub use table::{FabricRule, FabricSeat, FabricTable, GotItem, HeldRequest, Tells};
+pub use view::{ArmNote, FabricView, HeldItem, KeptItem, Ledger, Posting, Work};

@@ -6,7 +6,7 @@ use crate::cause::Refusal;
 use crate::event::FabricEvent;
 use app_queue::Side;
 use std::collections::LinkedList;
-use unit_model::Seat as SeatLists;
+use unit_model::{Seat as SeatLists, Shape};
 
 /// An item that a seat holds, with the ring and the place where it was got or popped.
 pub struct HeldItem {
@@ -16,7 +16,7 @@ pub struct HeldItem {
     pub place: u64,
 }
 
-/// An item that a seat of this number keeps for good, since the free ring is worn.
+/// An item without a tag that a seat of this number keeps for good, since the free ring that it should go to is worn.
 pub struct KeptItem {
     pub seat: u32,
     pub queue: u32,
@@ -24,7 +24,7 @@ pub struct KeptItem {
 }
 
 /// An arm: the item, the place where it was got from the free ring, the stream, and its run word and part word.
-pub struct Arming {
+pub struct ArmNote {
     pub queue: u32,
     pub item: u32,
     pub place: u64,
@@ -44,18 +44,32 @@ pub enum Work {
     /// A stream that it drew and hasn't posted.
     Drawn(u64),
     /// A stream that it posted with this item, and neither cancelled nor abandoned.
-    Posted(u64, u32),
-    /// A stream that it took, of which it sent so many parts, and no last one.
-    Taken(u64, u64),
-    /// A stream that it took, of whose part it has armed this item of this queue, and not pushed it.
-    Sending(u64, u32, u32),
+    Posted {
+        stream: u64,
+        item: u32,
+    },
+    /// A stream that it took, of the engine that posted it. It sent so many parts of the reply, and no last one.
+    Taken {
+        stream: u64,
+        poster: u32,
+        parts: u64,
+    },
+    /// A stream that it took, with so many parts sent. The newest of them is armed with this item of its poster's queue and not
+    /// pushed; it is the last one where `last` says so.
+    Sending {
+        stream: u64,
+        poster: u32,
+        parts: u64,
+        last: bool,
+        item: u32,
+    },
     /// Chunks or an item, of no stream.
     Holding,
 }
 
 /// What a seat of this number did, in the machine's eight lists; what it was refused, newest first; the number of its open works;
 /// and the item that it popped and has neither settled nor handed on, of the queue that it empties.
-pub struct Care {
+pub struct Ledger {
     pub seat: u32,
     pub lists: SeatLists,
     pub refusals: LinkedList<Refusal>,
@@ -65,16 +79,17 @@ pub struct Care {
 
 /// What a seat knows. No value of it is made.
 ///
-/// `care` has one entry at a main seat, none at a state's, and several where main seats were joined. Chunks are numbered over all
-/// segments. The log has the newest event first.
+/// The shape is that of the fabric. `ledgers` has one entry at a main seat, none at a state's, and several where main seats were
+/// joined. Chunks are numbered over all segments. The log has the newest event first.
 pub struct FabricView {
+    pub shape: Shape,
     pub seat: u32,
-    pub care: LinkedList<Care>,
+    pub ledgers: LinkedList<Ledger>,
     pub works: LinkedList<Work>,
     pub chunks: LinkedList<u32>,
     pub items: LinkedList<HeldItem>,
     pub kept: LinkedList<KeptItem>,
-    pub arms: LinkedList<Arming>,
+    pub arms: LinkedList<ArmNote>,
     pub records: LinkedList<Posting>,
     pub log: LinkedList<FabricEvent>,
 }

@@ -1,0 +1,419 @@
+-- An item goes into a ring.
+use Rattle.unit_model.specs.declared.machine.Sides.{Sides}
+use Rattle.fabric_rule.specs.declared.event.Segments.TheVariants.{Out, Back}
+use Rattle.std.proofs.Common.{ℕ, ◌+◌, ◌%◌, ◌≡◌, ◌≢◌, ◌≤◌, ◌<◌, ◌⊎◌, ◌==◌, ◌&&◌, inl, inr, ⊎_elim, Bool, true, false, cond, List, [], ◌∷◌, length, set, refl, sym, ap, ◌∙◌, subst, arith, length-set, Some}
+use Rattle.std.specs.Prelude.{Option}
+use Rattle.std.proofs.lemmas.Bool.{cases_eq, ne_eqb}
+use mathlib.Core.Option.{some}
+use lib.ListN.{get_elem?}
+use Rattle.atomic_table.specs.Table.{State, keeps, stepped}
+use Rattle.nncq_ring.specs.Notes.{RingPart}
+use Rattle.nncq_ring.specs.Words.{SetsEntry, Words, entry_of, line_of, logical_tail}
+use Rattle.nncq_ring.specs.declared.view.RingEvent.{RingEvent}
+use Rattle.nncq_ring.specs.declared.view.RingEvent.TheVariants.{Pushed, SawTail}
+use Rattle.nncq_ring.proofs.Exchanges.{places_long, pushed_tail}
+use Rattle.nncq_ring.proofs.RingParts.{note_at, part_pushes}
+use Rattle.app_queue.specs.Queues.{IsOther}
+use Rattle.app_queue.specs.Views.{last_tag, last_run, last_part, is_armed}
+use Rattle.app_queue.specs.declared.side.Side.{Side}
+use Rattle.app_queue.specs.declared.side.Side.TheVariants.{Free, Line}
+use Rattle.app_queue.specs.declared.view.ItemEvent.{ItemEvent}
+use Rattle.app_queue.proofs.ArmFrames.{arms_stay}
+use Rattle.app_queue.proofs.KnownFrames.{tags_known, words_known}
+use Rattle.app_queue.proofs.RingFrames.{rings_step}
+use Rattle.request_context.specs.declared.piece.Parcel.{Parcel}
+use Rattle.unit_model.specs.Core.{item_of, owner_of, queue_of, role_of}
+use Rattle.unit_model.specs.Effects.{after_step, with_free, with_in_line, with_item}
+use Rattle.unit_model.specs.Holding.{is_in_free_list, is_in_line, items_of}
+use Rattle.unit_model.specs.PartOrder.{Each}
+use Rattle.unit_model.specs.Premises.{IsInHand}
+use Rattle.unit_model.specs.Shapes.{role_in}
+use Rattle.unit_model.specs.Sharing.{Holds}
+use Rattle.unit_model.specs.Weights.{weigh, is_number, one_if}
+use Rattle.unit_model.specs.declared.machine.Core.{Core}
+use Rattle.unit_model.specs.declared.machine.Item.{Item}
+use Rattle.unit_model.specs.declared.machine.Step.{Step}
+use Rattle.unit_model.specs.declared.machine.Step.TheVariants.{GiveItem, Push}
+use Rattle.unit_model.specs.declared.machine.Whereabouts.{Whereabouts}
+use Rattle.unit_model.specs.declared.machine.Whereabouts.TheVariants.{InFreeList, InLine}
+use Rattle.unit_model.specs.declared.shape.Shape.{Shape}
+use Rattle.unit_model.proofs.ItemChanges.{SetsItem, item_beside, item_elsewhere, item_here}
+use Rattle.unit_model.proofs.PartOrderOthers.{others_in_order}
+use Rattle.unit_model.proofs.RoleLists.{seats_by_role_stay}
+use Rattle.unit_model.proofs.RoleSteps.{by_role_stays}
+use Rattle.unit_model.proofs.StepFacts.{sets_after_give, sets_after_push}
+use Rattle.unit_types.specs.declared.message.Reply.{Reply}
+use Rattle.unit_types.specs.declared.message.Request.{Request}
+use Rattle.fabric_words.specs.Needs.{IsVacant}
+use Rattle.fabric_words.specs.Offsets.{offset_of, word_in}
+use Rattle.fabric_words.specs.Places.{HasItem, Sets, is_of_ring, queues_of}
+use Rattle.fabric_words.specs.Shown.{IsStep}
+use Rattle.fabric_words.specs.declared.place.Place.{Place}
+use Rattle.fabric_words.specs.declared.place.Place.TheVariants.{Head, Tail, Slot, Tag, RunWord, PartWord}
+use Rattle.fabric_words.specs.declared.place.Side.TheVariants.{FreeSide, LineSide}
+use Rattle.fabric_words.proofs.EachStep.{made_step}
+use Rattle.fabric_words.proofs.Frames.{chunk_stays, other_queue, other_side, ring_stays}
+use Rattle.fabric_words.proofs.Standing.{set_word}
+use Rattle.fabric_rule.specs.FrameLaws.{SameLists, StaysUntagged}
+use Rattle.fabric_rule.specs.Parts.{ItemsHeld, IsIdle, KeptAreWorn, OpensNoted, RecordsKnown, hand_weight}
+use Rattle.fabric_rule.specs.Rule.{FabricHolds, NotesAreTrue, ViewsShow}
+use Rattle.fabric_rule.specs.Steps.{GiveItemLaw, IsMachineStep, MayPut, PushLineLaw, is_held, slot_of, with_put}
+use Rattle.fabric_rule.specs.Views.{arms_at, got_at, held_at, is_got, item_log, log_at, open_noted, part_in, part_said, queues_in, ring_in, run_in, run_said, tag_in, tag_kept, tag_said, word_side}
+use Rattle.fabric_rule.specs.declared.view.FabricView.{FabricView}
+use Rattle.fabric_rule.specs.declared.view.HeldItem.{HeldItem}
+use Rattle.fabric_rule.proofs.Contents.{filled_stay, kept_stay, kept_untagged}
+use Rattle.fabric_rule.proofs.Frames.{chunks_stay, item_moves, of_each, of_fabric}
+use Rattle.fabric_rule.proofs.Logs.{other_log, own_log}
+use Rattle.fabric_rule.proofs.ListFrames.{counted_stay, in_work_stay, lists_there, posts_stay, records_stay, streams_stay, works_stay}
+use Rattle.std.proofs.Common.{◌-◌, mod-lt}
+use Rattle.std.proofs.lemmas.List.{length-map}
+use Rattle.std.proofs.lemmas.Bool.{and_parts, cases_Bool, eqb-true}
+use Rattle.unit_model.specs.PartOrder.{IsOther as OtherStep}
+use Rattle.unit_model.specs.Weights.{count_of, without_first}
+use Rattle.unit_model.specs.declared.machine.Entry.{Entry}
+use Rattle.unit_model.proofs.Rooms.{list_has_room}
+use Rattle.unit_model.proofs.Weights.{weigh-without_first}
+use Rattle.fabric_words.specs.Places.{ring_of}
+use Rattle.fabric_words.specs.Shown.{ShowsList, entry_at}
+use Rattle.fabric_rule.proofs.Hands.{in_hand}
+use Rattle.fabric_rule.proofs.ListFrames.{lists_stay}
+use Rattle.fabric_rule.proofs.Passing.{this_or_other}
+
+-- ---- lists
+
+-- what an item that is held weighs, and what other ones do
+holds_it : (queue item : ℕ) (f : ℕ → ℕ) (h : HeldItem) → is_held queue item h ≡ true → cond {A = ℕ} (h.queue == queue) (f h.item) 0 ≡ f item
+holds_it queue item f h is =
+    let parts = and_parts (h.queue == queue) (h.item == item) is in
+    ap (λ (b : Bool). cond {A = ℕ} b (f h.item) 0) parts.0 ∙ ap f (eqb-true h.item item parts.1)
+
+not_elsewhere : (queue item q : ℕ) (f : ℕ → ℕ) (h : HeldItem) → q ≢ queue → is_held queue item h ≡ true → cond {A = ℕ} (h.queue == q) (f h.item) 0 ≡ 0
+not_elsewhere queue item q f h ne is =
+    let parts = and_parts (h.queue == queue) (h.item == item) is in
+    ap (λ (b : Bool). cond {A = ℕ} b (f h.item) 0) (ne_eqb h.queue q (λ same. ne (sym same ∙ eqb-true h.queue queue parts.0)))
+
+counts_it : (queue item : ℕ) (items : List HeldItem) → 0 < weigh (λ (h : HeldItem). cond {A = ℕ} (h.queue == queue) (is_number item h.item) 0) items → 0 < count_of (is_held queue item) items
+counts_it queue item [] held = held
+counts_it queue item (h ∷ hs) held =
+    elim (cases_Bool (is_held queue item h)) [
+      | inl is ↦ omega (arith, ap one_if is)
+      | inr off ↦ omega (arith, counts_it queue item hs (omega (arith, held, none (h.queue == queue) (h.item == item) off)))
+    ]
+  where
+    none : (a b : Bool) → (a && b) ≡ false → cond {A = ℕ} a (one_if b) 0 ≡ 0
+    none true b off = ap one_if off
+    none false b off = refl
+
+-- what is left was there
+fewer_got : (queue item q i p : ℕ) (items : List HeldItem) → weigh (is_got q i p) (without_first (is_held queue item) items) ≤ weigh (is_got q i p) items
+fewer_got queue item q i p [] = omega arith
+fewer_got queue item q i p (h ∷ hs) = by (is_held queue item h) (fewer_got queue item q i p hs)
+  where
+    by : (b : Bool) → weigh (is_got q i p) (without_first (is_held queue item) hs) ≤ weigh (is_got q i p) hs → weigh (is_got q i p) (cond b hs (h ∷ without_first (is_held queue item) hs)) ≤ weigh (is_got q i p) (h ∷ hs)
+    by true fewer = omega arith
+    by false fewer = omega (arith, fewer)
+
+-- a ring that shows a list which is shorter than its size has room
+room_of : (n : ℕ) (w : Words) (entries : List Entry) (next : ℕ) → ShowsList n w entries next → length entries < n → logical_tail n w < w.head + n
+room_of n w entries next shows short =
+    omega (arith, short, ap (length {A = Entry}) shows.list, length-map (line_of n w) entry_at, places_long n w.entry w.head (logical_tail n w - w.head), shows.fine.front)
+
+-- ---- what the step leaves of a core
+
+pub record Leaves (word' : Place → ℕ) (core : Core) (step : Step) (queue item : ℕ) (gone : Whereabouts) : Type 0 where
+  pub link : IsStep word' core step
+  pub same : SameLists core (after_step core step)
+  pub owners : (chunk : ℕ) → owner_of (after_step core step) chunk ≡ owner_of core chunk
+  pub opened : (after_step core step).opened ≡ core.opened
+  pub sets : SetsItem core (after_step core step) queue item (record (item_of core queue item) { whereabouts = gone })
+  pub weightless : (f : ℕ → ℕ → ℕ) (i : ℕ) → hand_weight f gone i ≡ 0
+  pub other : OtherStep step
+
+module _ (core : Core) (seat queue item place : ℕ) where
+  push_lists : SameLists core (after_step core (Push seat queue item place))
+  unfolding after_step with_item with_in_line
+  push_lists = record { shape = refl; seats = refl }
+
+  push_owner : (chunk : ℕ) → owner_of (after_step core (Push seat queue item place)) chunk ≡ owner_of core chunk
+  unfolding after_step with_item with_in_line
+  push_owner chunk = refl
+
+  push_opened : (after_step core (Push seat queue item place)).opened ≡ core.opened
+  unfolding after_step with_item with_in_line
+  push_opened = refl
+
+  give_lists : SameLists core (after_step core (GiveItem seat queue item place))
+  unfolding after_step with_item with_free
+  give_lists = record { shape = refl; seats = refl }
+
+  give_owner : (chunk : ℕ) → owner_of (after_step core (GiveItem seat queue item place)) chunk ≡ owner_of core chunk
+  unfolding after_step with_item with_free
+  give_owner chunk = refl
+
+  give_opened : (after_step core (GiveItem seat queue item place)).opened ≡ core.opened
+  unfolding after_step with_item with_free
+  give_opened = refl
+
+-- ---- the step
+
+module _ {H : Type 0} (reply_of : List ℕ → Request → Reply) (shape : Shape) (s : State (Option (Parcel H)) FabricView) (holds : FabricHolds reply_of shape s) (id : ℕ) (v : FabricView) (at : get_elem? s.views id ≡ some v) (busy : v.works ≢ [])
+    (queue item place : ℕ) (side : Side) (there : HasItem shape queue item) (mine : Holds (held_at queue) item v) (may : MayPut shape s.words v queue side place) where
+  abbrev n : ℕ
+  n = items_of shape queue
+
+  abbrev e : RingEvent
+  e = Pushed place item
+
+  abbrev u : FabricView
+  u = with_put queue side item place v
+
+  abbrev word : Place → ℕ
+  word = word_in shape s.words
+
+  abbrev words' : List ℕ
+  words' = set s.words (offset_of shape (slot_of shape queue side place)) (entry_of n place item)
+
+  abbrev word' : Place → ℕ
+  word' = word_in shape words'
+
+  abbrev core : Core
+  core = holds.core
+
+  abbrev w : Words
+  w = ring_in word queue side
+
+  abbrev w' : Words
+  w' = ring_in word' queue side
+
+  part : RingPart n (log_at queue side) w s.views
+  part = holds.notes.rings.rings queue there.in_queues side
+
+  in_slots : place % n < n
+  in_slots = mod-lt place part.fine.size
+
+  pub sets : Sets shape word word' (slot_of shape queue side place) (entry_of n place item)
+  sets = set_word shape s.words (slot_of shape queue side place) (entry_of n place item) holds.wide (record { in_queues = there.in_queues; in_items = in_slots })
+
+  entry_sets : SetsEntry n w w' (place % n) (entry_of n place item)
+  entry_sets = record {
+    head = sets.others (Head queue (word_side side)) there.in_queues (λ is. absurd (cc is));
+    tail = sets.others (Tail queue (word_side side)) there.in_queues (λ is. absurd (cc is));
+    here = sets.here;
+    others = λ j lt ne. sets.others (Slot queue (word_side side) j) (record { in_queues = there.in_queues; in_items = lt }) (λ is. ne (cc is));
+  }
+
+  pub there' : HasItem core.shape queue item
+  there' = subst (λ (sh : Shape). HasItem sh queue item) (sym holds.shaped) there
+
+  pub hand : IsInHand core v.seat queue item
+  hand = in_hand core s.views id v at holds.views.items queue item there'.in_queues mine
+
+  pub vacant : IsVacant (items_of core.shape queue) w place
+  vacant = subst (λ (sh : Shape). IsVacant (items_of sh queue) w place) (sym holds.shaped)
+      (record { seen = note_at n w (log_at queue side v) may.seen_at (SawTail place) may.seen (part.noted id v at); before = may.vacant })
+
+  pub inside : item < length (queue_of core queue).items
+  inside = omega (arith, there'.in_items, holds.keeps.sound.held.shape.items queue there'.in_queues)
+
+  pub sized : length (queue_of core queue).items ≡ n
+  sized = holds.keeps.sound.held.shape.items queue there'.in_queues ∙ ap (λ (sh : Shape). items_of sh queue) holds.shaped
+
+  off_ring : (s1 : Side) (r : ℕ) (other : Side) → IsOther queue s1 r other → is_of_ring r (word_side other) (Slot queue (word_side s1) (place % n)) ≡ false
+  off_ring Free r Free apart = ⊎_elim (λ ne. other_queue r queue FreeSide FreeSide ne) (λ ne. absurd (ne refl)) apart
+  off_ring Free r Line apart = other_side r queue LineSide FreeSide refl
+  off_ring Line r Free apart = other_side r queue FreeSide LineSide refl
+  off_ring Line r Line apart = ⊎_elim (λ ne. other_queue r queue LineSide LineSide ne) (λ ne. absurd (ne refl)) apart
+
+  same_items : (r : ℕ) → item_log r u.log ≡ item_log r v.log
+  same_items r = by (queue == r)
+    where
+      by : (b : Bool) → cond b (item_log r v.log) (item_log r v.log) ≡ item_log r v.log
+      by true = refl
+      by false = refl
+
+  -- what is held was held
+  held_here : (f : ℕ → ℕ) → held_at queue f u + f item ≡ held_at queue f v
+  held_here f = weigh-without_first (λ (h : HeldItem). cond {A = ℕ} (h.queue == queue) (f h.item) 0) (is_held queue item) (f item) (holds_it queue item f) v.items (counts_it queue item v.items mine)
+
+  held_else : (q : ℕ) (f : ℕ → ℕ) → q ≢ queue → held_at q f u ≡ held_at q f v
+  held_else q f ne = omega (arith, weigh-without_first (λ (h : HeldItem). cond {A = ℕ} (h.queue == q) (f h.item) 0) (is_held queue item) 0 (λ h is. not_elsewhere queue item q f h ne is) v.items (counts_it queue item v.items mine))
+
+  was_held : (q i : ℕ) → Holds (held_at q) i u → Holds (held_at q) i v
+  was_held q i held =
+      elim (cases_eq q queue) [
+        | inl is ↦ subst (λ (r : ℕ). 0 < held_at r (is_number i) v) (sym is) (omega (arith, held_here (is_number i), subst (λ (r : ℕ). 0 < held_at r (is_number i) u) is held))
+        | inr ne ↦ omega (arith, held, held_else q (is_number i) ne)
+      ]
+
+  notes' : logical_tail n w < w.head + n → NotesAreTrue shape word' (set s.views id u)
+  notes' room =
+      let old = holds.notes in
+      let seen : place ≤ w.tail = note_at n w (log_at queue side v) may.seen_at (SawTail place) may.seen (part.noted id v at) in
+      record {
+        rings = rings_step FabricView log_at (queues_in shape) (ring_in word) (ring_in word') s.views id v u at queue side
+            (λ r lt other apart. ring_stays shape word word' (slot_of shape queue side place) (entry_of n place item) sets r (word_side other) lt (off_ring side r other apart))
+            (λ r lt other apart. other_log queue side e v.log r other apart)
+            (part_pushes n (log_at queue side) w s.views id v at part w' u place item may.seen_at may.seen (own_log queue side e v.log) may.vacant there.in_items room entry_sets)
+            (omega (arith, pushed_tail n place item w w' part.fine seen may.vacant there.in_items room entry_sets, may.low))
+            old.rings;
+        tags = tags_known FabricView tag_said held_at (queues_in shape) (tag_in word) (tag_in word') s.views id v u at (λ q lt i below_n. sets.others (Tag q i) (record { in_queues = lt; in_items = below_n }) (λ is. absurd (cc is)))
+            (λ q i held. (was_held q i held, λ x told. subst (λ (es : List ItemEvent). last_tag i es ≡ Some x) (same_items q) told)) old.tags;
+        kept_tags = words_known FabricView (tag_kept shape) held_at (queues_in shape) (tag_in word) (tag_in word') s.views id v u at (λ q lt i below_n. sets.others (Tag q i) (record { in_queues = lt; in_items = below_n }) (λ is. absurd (cc is)))
+            (λ q i held. (was_held q i held, λ x told. (subst (λ (es : List ItemEvent). last_tag i es ≡ Some x) (same_items q) told.0, told.1))) old.kept_tags;
+        runs = words_known FabricView run_said held_at (queues_in shape) (run_in word) (run_in word') s.views id v u at (λ q lt i below_n. sets.others (RunWord q i) (record { in_queues = lt; in_items = below_n }) (λ is. absurd (cc is)))
+            (λ q i held. (was_held q i held, λ x told. subst (λ (es : List ItemEvent). last_run i es ≡ Some x) (same_items q) told)) old.runs;
+        parts = words_known FabricView part_said held_at (queues_in shape) (part_in word) (part_in word') s.views id v u at (λ q lt i below_n. sets.others (PartWord q i) (record { in_queues = lt; in_items = below_n }) (λ is. absurd (cc is)))
+            (λ q i held. (was_held q i held, λ x told. subst (λ (es : List ItemEvent). last_part i es ≡ Some x) (same_items q) told)) old.parts;
+        arms = λ q lt.
+            let heads : word' (Head q FreeSide) ≡ word (Head q FreeSide) = sets.others (Head q FreeSide) lt (λ is. absurd (cc is)) in
+            arms_stay FabricView (got_at q) (arms_at q) (held_at q) (items_of shape q) (word (Head q FreeSide)) (word' (Head q FreeSide)) (tag_in word q) (tag_in word' q) (run_in word q) (run_in word' q) (part_in word q) (part_in word' q) s.views id v u at
+            (omega (arith, heads))
+            (λ i below_n. inr (sets.others (Tag q i) (record { in_queues = lt; in_items = below_n }) (λ is. absurd (cc is)), sets.others (RunWord q i) (record { in_queues = lt; in_items = below_n }) (λ is. absurd (cc is)), sets.others (PartWord q i) (record { in_queues = lt; in_items = below_n }) (λ is. absurd (cc is))))
+            refl
+            (λ i held p got. (was_held q i held, (omega (arith, got.0, fewer_got queue item q i p v.items), subst (λ (es : List ItemEvent). is_armed i es ≡ false) (same_items q) got.1))) (old.arms q lt);
+      }
+
+  -- ---- views
+
+  module _ (step : Step) (gone : Whereabouts) (leaves : Leaves word' core step queue item gone) where
+    abbrev core' : Core
+    core' = after_step core step
+
+    moved : (q i : ℕ) → (q ≢ queue) ⊎ (i ≢ item) → item_of core' q i ≡ item_of core q i
+    moved q i apart =
+        elim (cases_eq q queue) [
+          | inl is ↦ ⊎_elim (λ ne. absurd (ne is)) (λ ne. subst (λ (r : ℕ). item_of core' r i ≡ item_of core r i) (sym is) (item_beside core core' queue item (record (item_of core queue item) { whereabouts = gone }) leaves.sets i ne)) apart
+          | inr ne ↦ item_elsewhere core core' queue item (record (item_of core queue item) { whereabouts = gone }) leaves.sets q i ne
+        ]
+
+    here : item_of core' queue item ≡ record (item_of core queue item) { whereabouts = gone }
+    here = item_here core core' queue item (record (item_of core queue item) { whereabouts = gone }) leaves.sets
+
+    record SaysTheSame (old new : Item) : Type 0 where
+      tag : new.tag ≡ old.tag
+      run : new.run ≡ old.run
+      part : new.part ≡ old.part
+      last : new.stream ≡ old.stream
+
+    same_item : (q i : ℕ) → SaysTheSame (item_of core q i) (item_of core' q i)
+    same_item q i = ⊎_elim
+        (λ this. subst (λ (r : ℕ). SaysTheSame (item_of core r i) (item_of core' r i)) (sym this.0) (subst (λ (j : ℕ). SaysTheSame (item_of core queue j) (item_of core' queue j)) (sym this.1)
+        (subst (SaysTheSame (item_of core queue item)) (sym here) (record { tag = refl; run = refl; part = refl; last = refl }))))
+        (λ other. subst (SaysTheSame (item_of core q i)) (sym (moved q i other)) (record { tag = refl; run = refl; part = refl; last = refl }))
+        (this_or_other queue item q i)
+
+    items' : ItemsHeld core' (set s.views id u)
+    items' =
+        let was : (f : ℕ → ℕ → ℕ) → hand_weight f (item_of core queue item).whereabouts item ≡ f v.seat item = λ f. ap (λ (x : Whereabouts). hand_weight f x item) hand in
+        let is : (f : ℕ → ℕ → ℕ) → hand_weight f (item_of core' queue item).whereabouts item ≡ 0 = λ f. ap (λ (x : Item). hand_weight f x.whereabouts item) here ∙ leaves.weightless f item in
+        item_moves core core' s.views id v u at leaves.same.shape queue item there'.in_items (λ q i apart. ap (λ (x : Item). x.whereabouts) (moved q i apart))
+        (λ f. omega (arith, was f, is f, held_here (f v.seat)))
+        (λ q f ne. omega (arith, held_else q (f v.seat) ne))
+        holds.views.items
+
+    opens_same : (y : FabricView) → OpensNoted core y → OpensNoted core' y
+    opens_same y old = record {
+      out = subst (λ (o : Sides). open_noted Out y ≤ o.out) (sym leaves.opened) old.out;
+      back = subst (λ (o : Sides). open_noted Back y ≤ o.back) (sym leaves.opened) old.back;
+    }
+
+    views' : ViewsShow shape word' holds.popped holds.armed holds.records core' (set s.views id u)
+    views' =
+        let old = holds.views in
+        let same : SameLists core core' = leaves.same in
+        let tails : (q : ℕ) → q < queues_of core.shape → (ring_in word q Free).tail ≤ (ring_in word' q Free).tail = λ q lt.
+        let is : word' (Tail q FreeSide) ≡ word (Tail q FreeSide) = sets.others (Tail q FreeSide) (subst (λ (sh : Shape). q < queues_of sh) holds.shaped lt) (λ is_slot. absurd (cc is_slot)) in omega (arith, is) in
+        let untagged : (y : FabricView) → Each (StaysUntagged core core') y.kept = kept_untagged core core' (λ q i none. (same_item q i).tag ∙ none) in
+        record {
+          there = of_fabric core core' s.views id v u at same.shape refl refl old.there;
+          items = items';
+          chunks = chunks_stay core core' s.views id v u at same.shape leaves.owners (λ f. refl) old.chunks;
+          opens = of_each (OpensNoted core) (OpensNoted core') s.views id u (record { out = (opens_same v (old.opens id v at)).out; back = (opens_same v (old.opens id v at)).back }) opens_same old.opens;
+          posts = posts_stay core core' s.views id v u at same refl old.posts;
+          streams = streams_stay core core' s.views id v u at same.shape (λ q i. (same_item q i).last) refl old.streams;
+          records_known = of_each (RecordsKnown core holds.records) (RecordsKnown core' holds.records) s.views id u (records_stay core core' holds.records v u same refl (old.records_known id v at)) (λ y. records_stay core core' holds.records y y same refl) old.records_known;
+          lists = lists_stay core core' holds.popped s.views id v u at same refl old.lists;
+          lists_there = lists_there core core' s.views id v u at same.shape (λ k. refl) old.lists_there;
+          works = works_stay core core' holds.armed s.views id v u at same refl refl refl old.works;
+          counted = counted_stay s.views id v u at (λ k. refl) old.counted;
+          idle = of_each (IsIdle shape) (IsIdle shape) s.views id u (λ spent. absurd (busy spent)) (λ y is. is) old.idle;
+          in_work = in_work_stay core core' s.views id v u at same refl old.in_work;
+          kept = of_each (KeptAreWorn core (ring_in word)) (KeptAreWorn core' (ring_in word')) s.views id u
+              (kept_stay core core' (ring_in word) (ring_in word') v u same.shape tails (untagged v) refl (old.kept id v at)) (λ y. kept_stay core core' (ring_in word) (ring_in word') y y same.shape tails (untagged y) refl) old.kept;
+        }
+
+    pub puts : logical_tail n w < w.head + n → (carried : List (ℕ × Option (Parcel H))) → IsMachineStep reply_of shape s holds step (stepped s (offset_of shape (slot_of shape queue side place)) (entry_of n place item) id carried u keeps)
+    puts room carried = record {
+      enabled = leaves.link.enabled;
+      after = record {
+        wide = omega (arith, holds.wide, length-set s.words (offset_of shape (slot_of shape queue side place)) (entry_of n place item));
+        core = core';
+        popped = holds.popped;
+        armed = holds.armed;
+        records = holds.records;
+        shaped = leaves.same.shape ∙ holds.shaped;
+        keeps = record {
+          sound = leaves.link.sound;
+          items = by_role_stays core step holds.keeps.sound holds.keeps.items leaves.link.enabled;
+          seats = seats_by_role_stay core step holds.keeps.seats leaves.link.enabled;
+          order = others_in_order holds.popped holds.armed core step holds.keeps.sound holds.keeps.order leaves.other leaves.link.enabled;
+        };
+        shows = leaves.link.shows;
+        notes = notes' room;
+        views = views';
+        free = λ chunk lt is. holds.free chunk lt (sym (chunk_stays shape word word' (slot_of shape queue side place) (entry_of n place item) sets (λ k is_slot. absurd (cc is_slot)) chunk lt) ∙ is);
+        filled = filled_stay H reply_of holds.records holds.records core core' s.homes s.homes leaves.same.shape (λ q i has armed. let it = same_item q i in (it.tag, it.run, it.part, refl, λ chunk in_run. refl)) holds.filled;
+      };
+      is = refl;
+    }
+
+-- ---- the laws
+
+pub push_line : (H : Type 0) → PushLineLaw H
+push_line H reply_of shape s holds id v carried at busy engine item place stream there mine said some_stream may =
+    let core : Core = holds.core in
+    let word : Place → ℕ = word_in shape s.words in
+    let role : role_of core v.seat ≡ 0 = ap (λ (sh : Shape). role_in sh v.seat) holds.shaped ∙ engine in
+    let in_hand_now : IsInHand core v.seat 0 item = hand reply_of shape s holds id v at busy 0 item place Line there mine may in
+    let tag : word (Tag 0 item) ≡ stream = holds.notes.kept_tags 0 there.in_queues id v at item there.in_items mine stream (said, inr engine) in
+    let below_n : item < length (queue_of core 0).items = inside reply_of shape s holds id v at busy 0 item place Line there mine may in
+    let off : is_in_line (item_of core 0 item).whereabouts ≡ false = ap is_in_line in_hand_now in
+    let short : length (queue_of core 0).line < length (queue_of core 0).items = list_has_room (queue_of core 0) is_in_line (queue_of core 0).line (holds.keeps.sound.held.queues 0).line item below_n off in
+    let link = made_step shape word (word_in shape (set s.words (offset_of shape (slot_of shape 0 Line place)) (entry_of (items_of shape 0) place item))) (Push v.seat 0 item place) (sets reply_of shape s holds id v at busy 0 item place Line there mine may) core holds.shaped holds.keeps.sound holds.shows
+    (record {
+      fills = record { role = omega (arith, role); side = ap (λ (r : ℕ). r == 0) role };
+      hand = in_hand_now;
+      armed = λ none. some_stream (sym tag ∙ none);
+      low = omega (arith, may.low);
+      vacant = vacant reply_of shape s holds id v at busy 0 item place Line there mine may;
+    }) in
+    puts reply_of shape s holds id v at busy 0 item place Line there mine may (Push v.seat 0 item place) InLine
+    (record { link = link; same = push_lists core v.seat 0 item place; owners = push_owner core v.seat 0 item place; opened = push_opened core v.seat 0 item place; sets = sets_after_push core v.seat 0 item place below_n; weightless = λ f i. refl; other = refl })
+    (room_of (items_of shape 0) (ring_in word 0 Line) (queue_of core 0).line (queue_of core 0).next_line
+    (subst (λ (sh : Shape). ShowsList (items_of sh 0) (ring_of word 0 LineSide) (queue_of core 0).line (queue_of core 0).next_line) holds.shaped (holds.shows.line 0 (subst (λ (sh : Shape). 0 < queues_of sh) (sym holds.shaped) there.in_queues)))
+    (omega (arith, short, sized reply_of shape s holds id v at busy 0 item place Line there mine may)))
+    carried
+
+pub give_item : (H : Type 0) → GiveItemLaw H
+give_item H reply_of shape s holds id v carried at busy queue item place there mine said may =
+    let core : Core = holds.core in
+    let word : Place → ℕ = word_in shape s.words in
+    let in_hand_now : IsInHand core v.seat queue item = hand reply_of shape s holds id v at busy queue item place Free there mine may in
+    let tag : word (Tag queue item) ≡ 0 = ⊎_elim (λ is. is) (λ is. is) (holds.notes.tags queue there.in_queues id v at item there.in_items mine 0 said) in
+    let below_n : item < length (queue_of core queue).items = inside reply_of shape s holds id v at busy queue item place Free there mine may in
+    let off : is_in_free_list (item_of core queue item).whereabouts ≡ false = ap is_in_free_list in_hand_now in
+    let short : length (queue_of core queue).free < length (queue_of core queue).items = list_has_room (queue_of core queue) is_in_free_list (queue_of core queue).free (holds.keeps.sound.held.queues queue).free item below_n off in
+    let link = made_step shape word (word_in shape (set s.words (offset_of shape (slot_of shape queue Free place)) (entry_of (items_of shape queue) place item))) (GiveItem v.seat queue item place) (sets reply_of shape s holds id v at busy queue item place Free there mine may) core holds.shaped holds.keeps.sound holds.shows
+    (record {
+      role = (holds.views.there id v at).role;
+      hand = in_hand_now;
+      untagged = tag;
+      low = omega (arith, may.low);
+      vacant = vacant reply_of shape s holds id v at busy queue item place Free there mine may;
+    }) in
+    puts reply_of shape s holds id v at busy queue item place Free there mine may (GiveItem v.seat queue item place) InFreeList
+    (record { link = link; same = give_lists core v.seat queue item place; owners = give_owner core v.seat queue item place; opened = give_opened core v.seat queue item place; sets = sets_after_give core v.seat queue item place below_n; weightless = λ f i. refl; other = tt })
+    (room_of (items_of shape queue) (ring_in word queue Free) (queue_of core queue).free (queue_of core queue).next_free
+    (subst (λ (sh : Shape). ShowsList (items_of sh queue) (ring_of word queue FreeSide) (queue_of core queue).free (queue_of core queue).next_free) holds.shaped (holds.shows.free queue (subst (λ (sh : Shape). queue < queues_of sh) (sym holds.shaped) there.in_queues)))
+    (omega (arith, short, sized reply_of shape s holds id v at busy queue item place Free there mine may)))
+    carried

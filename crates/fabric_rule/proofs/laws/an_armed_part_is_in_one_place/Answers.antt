@@ -1,0 +1,8 @@
+use Rattle.fabric_rule.proofs.UnderWay.{alone, armed_back}
+use Rattle.fabric_rule.proofs.laws.an_armed_part_is_in_one_place.Goals as goal
+
+pub returns-clause-one : goal.returns-clause-one
+returns-clause-one c = armed_back
+
+pub returns-clause-alone : goal.returns-clause-alone
+returns-clause-alone c = alone

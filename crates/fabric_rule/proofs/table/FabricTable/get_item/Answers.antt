@@ -1,0 +1,19 @@
+use Rattle.std.proofs.Common.{arith}
+use Rattle.fabric_words.specs.declared.place.Place.TheVariants.{Head}
+use Rattle.fabric_words.specs.declared.place.Side.TheVariants.{FreeSide}
+use Rattle.fabric_words.proofs.Standing.{within}
+use Rattle.fabric_rule.proofs.Getting.{exchanges}
+use Rattle.fabric_rule.proofs.table.FabricTable.get_item.Goals as goal
+
+pub exchange_word-requires-clause-there : goal.exchange_word-requires-clause-there
+exchange_word-requires-clause-there g c =
+    let table = c.args.self.now.table.shared in
+    let inside = (within table.key (Head c.args.queue FreeSide) c.requires.there).1 in
+    omega (arith, c.requires.word, inside, c.args.self.now.wide)
+
+pub exchange_word-requires-clause-allowed : goal.exchange_word-requires-clause-allowed
+exchange_word-requires-clause-allowed g c =
+    let table = c.args.self.now.table.shared in
+    let seat = c.args.seat.now.seat in
+    rw c.requires.word
+    (λ s holds homes at fits. exchanges g.H.Handlers.reply_of table.key seat.id seat.me.0 seat.me.1 s holds at c.requires.busy c.args.queue c.requires.there c.requires.fills c.args.place c.args.entry c.requires.saw c.requires.head c.requires.full)

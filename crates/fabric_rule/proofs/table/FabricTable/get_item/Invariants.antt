@@ -1,0 +1,10 @@
+use Rattle.std.proofs.Common.{◌≡◌, ◌%◌}
+use Rattle.unit_model.specs.Holding.{items_of}
+use Rattle.fabric_rule.specs.Told.{Gets}
+use Rattle.fabric_rule.proofs.table.FabricTable.get_item.Given as goal
+
+abbrev pub ghosts-exchange_word : goal.ghosts-exchange_word
+ghosts-exchange_word g a = record {
+  tells = λ found me. (me.1 ≡ a.seat.now.me.1) × (me.0.chunks ≡ a.seat.now.me.0.chunks)
+      × Gets g.row.H.Denot g.H.Handlers.reply_of a.self.now.table.shared.key a.seat.now.id a._about.0 a.old (a._about.1 % items_of a.self.now.table.shared.key a._about.0) a.seat.now.me.0 found me.0;
+}

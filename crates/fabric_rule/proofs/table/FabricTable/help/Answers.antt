@@ -1,0 +1,30 @@
+use Rattle.std.proofs.Common.{◌∙◌, sym, ap, arith}
+use Rattle.carried_slots.specs.Carried.{numbers}
+use Rattle.unit_model.specs.Weights.{weigh}
+use Rattle.fabric_words.specs.declared.place.Place.TheVariants.{Tail}
+use Rattle.fabric_words.proofs.Standing.{within}
+use Rattle.fabric_rule.specs.Views.{word_side}
+use Rattle.fabric_rule.proofs.Helping.{exchanges}
+use Rattle.fabric_rule.proofs.table.FabricTable.help.Goals as goal
+
+pub exchange_word-requires-clause-there : goal.exchange_word-requires-clause-there
+exchange_word-requires-clause-there g c =
+    let table = c.args.self.now.table.shared in
+    let inside = (within table.key (Tail c.args.queue (word_side c.args.side)) c.requires.there).1 in
+    omega (arith, c.requires.word, inside, c.args.self.now.wide)
+
+pub exchange_word-requires-clause-allowed : goal.exchange_word-requires-clause-allowed
+exchange_word-requires-clause-allowed g c =
+    let table = c.args.self.now.table.shared in
+    let seat = c.args.seat.now.seat in
+    let saw = c.requires.saw in
+    let above = c.requires.above in
+    rw c.requires.word
+    (λ s holds homes at fits. exchanges g.H.Handlers.reply_of table.key seat.id seat.me.0 seat.me.1 s holds at c.args.queue c.args.side c.args.place c.requires.there above.0 above.1 above.2 above.3 saw.0 saw.1)
+
+pub invariant_of-seat : goal.invariant_of-seat
+invariant_of-seat g c =
+    let told = c.exchange_word.ensures.told in
+    record {
+      carries = λ f. ap (λ slots. weigh f (numbers slots)) told.0 ∙ c.args.seat.now.carries f ∙ sym (ap (weigh f) told.1);
+    }

@@ -1,0 +1,62 @@
+-- What follows of the rule.
+use Rattle.std.specs.Prelude.{ℕ, ◌+◌, ◌≡◌, ◌≢◌, ◌≤◌, ◌<◌, false, List, [], Option}
+use Rattle.atomic_table.specs.Table.{State}
+use Rattle.app_queue.specs.declared.side.Side.{Side}
+use Rattle.nncq_ring.specs.Words.{Words, line_of}
+use Rattle.request_context.specs.declared.piece.Parcel.{Parcel}
+use Rattle.unit_model.specs.Conditions.{holds_tagged}
+use Rattle.unit_model.specs.Core.{item_of, queue_of, role_of}
+use Rattle.unit_model.specs.Holding.{entries_of, items_of}
+use Rattle.unit_model.specs.PartOrder.{PartsInOrder}
+use Rattle.unit_model.specs.Soundness.{IsSound}
+use Rattle.unit_model.specs.Weights.{weigh, is_number, times}
+use Rattle.unit_model.specs.declared.machine.Core.{Core}
+use Rattle.unit_model.specs.declared.shape.Shape.{Shape}
+use Rattle.unit_types.specs.declared.message.Reply.{Reply}
+use Rattle.unit_types.specs.declared.message.Request.{Request}
+use Rattle.fabric_words.specs.Offsets.{word_in}
+use Rattle.fabric_words.specs.Places.{queues_of}
+use Rattle.fabric_rule.specs.CoreOf.{core_in}
+use Rattle.fabric_rule.specs.Rule.{FabricHolds}
+use Rattle.fabric_rule.specs.Views.{ring_in}
+use Rattle.fabric_rule.specs.declared.view.FabricView.{FabricView}
+
+-- what the rule shows is the core of words and views: so 'no step' means that the same core is shown
+abbrev pub CoreIsLaw : (H : Type 0) → Type 0
+CoreIsLaw H = (reply_of : List ℕ → Request → Reply) (shape : Shape) (s : State (Option (Parcel H)) FabricView)
+    (holds : FabricHolds reply_of shape s)
+    → holds.core ≡ core_in shape (word_in shape s.words) s.views
+
+-- ---- rings
+
+-- how often the value stands in the line of a ring of size n
+abbrev pub times_in_ring : ℕ → Words → ℕ → ℕ
+times_in_ring n w value = weigh (λ (e : ℕ × ℕ). is_number value e.1) (line_of n w)
+
+-- the values that stand in a ring of size n are below n, and no two are one
+pub record HasDistinctValues (n : ℕ) (w : Words) : Type 0 where
+  pub once : (value : ℕ) → times_in_ring n w value ≤ 1
+  pub below : (value : ℕ) → n ≤ value → times_in_ring n w value ≡ 0
+
+-- so it is of each ring
+abbrev pub RingsDistinctLaw : (H : Type 0) → Type 0
+RingsDistinctLaw H = (reply_of : List ℕ → Request → Reply) (shape : Shape) (s : State (Option (Parcel H)) FabricView)
+    (holds : FabricHolds reply_of shape s)
+    → (queue : ℕ) (side : Side) → queue < queues_of shape
+    → HasDistinctValues (items_of shape queue) (ring_in (word_in shape s.words) queue side)
+
+-- ---- armed items of back queues
+
+-- An armed item of a back queue is popped by the queue's engine and not settled, in the line, or armed and not pushed: one of these,
+-- once.
+abbrev pub ArmedBackLaw : Type 0
+ArmedBackLaw = (popped armed : ℕ → List ℕ) (core : Core) → IsSound core → PartsInOrder popped armed core
+    → (engine item : ℕ) → (item_of core (1 + engine) item).tag ≢ 0
+    → times item (popped engine) + entries_of item (queue_of core (1 + engine)).line
+    + times item (armed (item_of core (1 + engine) item).tag) ≡ 1
+
+-- So a worker of whose stream no part is armed and not pushed holds no item with this tag.
+abbrev pub AloneLaw : Type 0
+AloneLaw = (popped armed : ℕ → List ℕ) (core : Core) → IsSound core → PartsInOrder popped armed core
+    → (seat engine stream : ℕ) → role_of core seat ≡ 1 → stream ≢ 0 → armed stream ≡ []
+    → holds_tagged core seat (1 + engine) stream ≡ false
