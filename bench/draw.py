@@ -16,7 +16,7 @@ def rows():
 
 def draw():
     results = list(rows())
-    width = LEFT + int(max(most for _, _, most, _ in results) * SCALE) + 60
+    width = LEFT + int(max(max(ratio, most) for _, ratio, most, _ in results) * SCALE) + 60
     height = ROW * len(results) + 40
     out = ['<svg xmlns="http://www.w3.org/2000/svg" width="%d" height="%d" font-family="sans-serif" font-size="12">' % (width, height),
            '<rect width="100%" height="100%" fill="white"/>']

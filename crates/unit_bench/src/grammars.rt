@@ -1,11 +1,10 @@
 //! Paths, patterns and expansions at twice the size: the time may grow by 2.3 at most.
 
-use crate::samples::{repeated, request};
-use crate::timing::{Side, Timed, least_times, report};
 use path_normal::{expand, normal_path};
 use pattern_text::TextPattern;
 use std::io;
 use std::time::Instant;
+use timed_sides::{Side, Timed, least_times, repeated, report, request};
 use unit_types::Request;
 
 const RUNS: u32 = 400;

@@ -2,14 +2,13 @@
 //! pieces of one byte.
 ghost use Rattle.std.specs.Prelude.{◌≡◌, false, IfOk};
 
-use crate::samples::repeated;
-use crate::timing::{Side, Timed, least_times, report};
 use http_front::{Next, Reader};
 use httparse::Status;
 use httparse::spans::{EMPTY_HEADER_SPAN, parse_request};
 use std::alloc::{AllocError, Global};
 use std::io;
 use std::time::Instant;
+use timed_sides::{Side, Timed, least_times, repeated, report};
 use unit_types::Addr;
 
 const RUNS: u32 = 50;

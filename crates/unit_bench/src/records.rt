@@ -2,12 +2,12 @@
 ghost use Rattle.std.specs.Prelude.{IfOk};
 ghost use Rattle.request_context.specs.Record.{IsRecordable};
 
-use crate::timing::{Side, Timed, least_times, report};
 use request_context::{Asked, read_record, write_record};
 use std::alloc::{AllocError, Global};
 use std::hint::black_box;
 use std::io;
 use std::time::Instant;
+use timed_sides::{CopyBytes, Side, Timed, least_times, report};
 
 const CONTENT: usize = 10_000_000;
 
@@ -34,21 +34,6 @@ fn asked_of(alloc: Global, bytes: &[u8]) -> io::Result<Asked>
     match read_record(alloc, bytes)? {
         Some(asked) => Ok(asked),
         None => Err(io::Error::from(io::ErrorKind::InvalidData)),
-    }
-}
-
-#[derive(Drop)]
-struct CopyBytes<'a> {
-    bytes: &'a [u8],
-}
-
-impl Side for CopyBytes<'_> {
-    fn run(&self, rt: &HostRuntime) -> io::Result<Timed> {
-        let start = Instant::now(rt)?;
-        let copy = black_box(Vec::from_slice(rt.alloc(), self.bytes)?);
-        let run = Timed::since(rt, &start, true);
-        drop(copy);
-        run
     }
 }
 
