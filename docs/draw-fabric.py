@@ -3,26 +3,19 @@
 A row is a part of the list of words, a box a block of it: its name, its first word, how many words it has, and what stands
 there. Blocks of 16 words that many threads change are darker.
 """
-import os
 from xml.sax.saxutils import escape
 
-HERE = os.path.dirname(os.path.abspath(__file__))
+from drawn import rows, write
+
 LEFT, WIDTH, HEIGHT, GAP, ROW = 130, 196, 74, 8, 104
 TITLES = {"one": "once", "segment": "for each segment", "queue": "for each queue"}
 ACROSS = 4
 
 
-def rows():
-    with open(os.path.join(HERE, "fabric.tsv"), encoding="utf-8") as source:
-        for line in source:
-            if not line.startswith("#") and line.strip():
-                yield line.rstrip("\n").split("\t")
-
-
 def lanes():
     """The blocks in rows of four at most, each row with its title."""
     found = []
-    for row in rows():
+    for row in rows("fabric.tsv"):
         title = TITLES[row[5]]
         if not found or found[-1][0] != title or len(found[-1][1]) == ACROSS:
             found.append((title, []))
@@ -45,8 +38,7 @@ def box(x, y, row):
 def draw():
     found = lanes()
     width, height = LEFT + ACROSS * (WIDTH + GAP) + 8, ROW * len(found) + 12
-    out = ['<svg xmlns="http://www.w3.org/2000/svg" width="%d" height="%d" font-family="sans-serif" font-size="12">' % (width, height),
-           '<rect width="100%" height="100%" fill="white"/>']
+    out = []
     titles = set()
     for place, (title, blocks) in enumerate(found):
         top = place * ROW + 16
@@ -55,9 +47,7 @@ def draw():
         titles.add(title)
         for number, row in enumerate(blocks):
             out += box(LEFT + number * (WIDTH + GAP), top, row)
-    out.append("</svg>")
-    with open(os.path.join(HERE, "fabric.svg"), "w", encoding="utf-8") as target:
-        target.write("\n".join(out) + "\n")
+    write("fabric.svg", width, height, out)
 
 
 if __name__ == "__main__":

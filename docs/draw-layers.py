@@ -5,16 +5,15 @@ A crate that stands in crates.txt is filled; one that is planned is outlined.
 import os
 from xml.sax.saxutils import escape
 
-HERE = os.path.dirname(os.path.abspath(__file__))
+from drawn import HERE, rows, write
+
 WIDTH, HEIGHT, GAP, LEFT = 128, 30, 12, 70
 
 
-def rows():
-    with open(os.path.join(HERE, "layers.tsv"), encoding="utf-8") as source:
-        for line in source:
-            if not line.startswith("#") and line.strip():
-                layer, crate, does, below = (line.rstrip("\n").split("\t") + [""])[:4]
-                yield int(layer), crate, does, below.split()
+def layers():
+    for cells in rows("layers.tsv"):
+        layer, crate, does, below = (cells + [""])[:4]
+        yield int(layer), crate, does, below.split()
 
 
 def built():
@@ -33,11 +32,10 @@ def place(crates):
 
 
 def draw():
-    crates, here = list(rows()), built()
+    crates, here = list(layers()), built()
     places, columns, top = place(crates)
     width, height = LEFT + columns * (WIDTH + GAP) + 10, 20 + top * (HEIGHT + 34) + 10
-    out = ['<svg xmlns="http://www.w3.org/2000/svg" width="%d" height="%d" font-family="sans-serif" font-size="12">' % (width, height),
-           '<rect width="100%" height="100%" fill="white"/>']
+    out = []
     for layer in range(1, top + 1):
         out.append('<text x="8" y="%d" fill="#666">layer %d</text>' % (20 + (top - layer) * (HEIGHT + 34) + 19, layer))
     for _, crate, _, below in crates:
@@ -50,9 +48,7 @@ def draw():
         fill, dash = ("#dbe9ff", "") if crate in here else ("white", ' stroke-dasharray="4 3"')
         out.append('<rect x="%d" y="%d" width="%d" height="%d" rx="4" fill="%s" stroke="#456"%s><title>%s</title></rect>' % (x, y, WIDTH, HEIGHT, fill, dash, escape(does)))
         out.append('<text x="%d" y="%d" text-anchor="middle">%s</text>' % (x + WIDTH // 2, y + 19, crate))
-    out.append("</svg>")
-    with open(os.path.join(HERE, "layers.svg"), "w", encoding="utf-8") as target:
-        target.write("\n".join(out) + "\n")
+    write("layers.svg", width, height, out)
 
 
 if __name__ == "__main__":

@@ -3,23 +3,16 @@
 A lane is what the machine keeps of one kind; a box is a state, and an arrow a step that leads from one to the other, with
 the numbers of its conditions in their order.
 """
-import os
 from xml.sax.saxutils import escape
 
-HERE = os.path.dirname(os.path.abspath(__file__))
+from drawn import ARROW, rows, write
+
 LEFT, STEP, WIDTH, HEIGHT, LANE = 120, 250, 110, 32, 150
-
-
-def rows():
-    with open(os.path.join(HERE, "machine.tsv"), encoding="utf-8") as source:
-        for line in source:
-            if not line.startswith("#") and line.strip():
-                yield line.rstrip("\n").split("\t")
 
 
 def lanes():
     found = {}
-    for lane, start, end, step, conditions in rows():
+    for lane, start, end, step, conditions in rows("machine.tsv"):
         states, arrows = found.setdefault(lane, ([], []))
         for state in (start, end):
             if state not in states:
@@ -49,10 +42,7 @@ def draw():
     found = lanes()
     most = max(len(states) for states, _ in found.values())
     width, height = LEFT + (most - 1) * STEP + WIDTH + 30, LANE * len(found) + 10
-    out = ['<svg xmlns="http://www.w3.org/2000/svg" width="%d" height="%d" font-family="sans-serif" font-size="12">' % (width, height),
-           '<defs><marker id="head" viewBox="0 0 8 8" refX="7" refY="4" markerWidth="8" markerHeight="8" orient="auto">'
-           '<path d="M 0 0 L 8 4 L 0 8 z" fill="#456"/></marker></defs>',
-           '<rect width="100%" height="100%" fill="white"/>']
+    out = []
     for place, (lane, (states, arrows)) in enumerate(found.items()):
         top = place * LANE + 66
         at = {state: LEFT + n * STEP for n, state in enumerate(states)}
@@ -66,9 +56,7 @@ def draw():
             loops += start == end
             out.append('<path d="%s" fill="none" stroke="#456" marker-end="url(#head)"/>' % path)
             out.append('<text x="%d" y="%d" text-anchor="middle" font-size="11" fill="#234">%s</text>' % (x, y, escape("%s: %s" % (step, conditions))))
-    out.append("</svg>")
-    with open(os.path.join(HERE, "machine.svg"), "w", encoding="utf-8") as target:
-        target.write("\n".join(out) + "\n")
+    write("machine.svg", width, height, out, ARROW)
 
 
 if __name__ == "__main__":

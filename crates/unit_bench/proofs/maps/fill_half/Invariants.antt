@@ -1,5 +1,0 @@
-use Rattle.chunk_map.specs.Seats.{BelongsTo}
-use Rattle.unit_bench.proofs.maps.fill_half.Given as goal
-
-abbrev pub invariant-loop : goal.invariant-loop
-invariant-loop l = BelongsTo l.seat l.map

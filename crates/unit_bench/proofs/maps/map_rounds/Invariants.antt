@@ -1,5 +1,0 @@
-use Rattle.chunk_map.specs.Seats.{BelongsTo}
-use Rattle.unit_bench.proofs.maps.map_rounds.Given as goal
-
-abbrev pub invariant-loop-round : goal.invariant-loop-round
-invariant-loop-round l = BelongsTo l.seat l.map
