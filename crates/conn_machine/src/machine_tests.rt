@@ -555,16 +555,28 @@ fn send_later(
 }
 
 // The course of a connection whose configuration changes between two pieces.
+fn run_between(
+    alloc: Global,
+    old: &Current,
+    new: &Current,
+    first: &[u8],
+    second: &[u8],
+) -> Result<Course, AllocError>
+    requires { old.now.number < new.now.number }
+{
+    let mut machine = open(alloc)?;
+    let mut out = Bytes::of(Vec::new(alloc));
+    send(alloc, &mut machine, old, first, &mut out)?;
+    send_later(alloc, &mut machine, old, new, second, &mut out)?;
+    end(alloc, &mut machine, new, Ending::Input)?;
+    serve_all(alloc, &mut machine, new, &mut out)?;
+    closed(alloc, machine, out)
+}
+
 fn run_changing(alloc: Global, first: &[u8], second: &[u8]) -> Result<Course, Fail> {
     let old = current(alloc, 4, moving().as_bytes())?;
     let new = current(alloc, 5, with_fields().as_bytes())?;
-    let mut machine = open(alloc)?;
-    let mut out = Bytes::of(Vec::new(alloc));
-    send(alloc, &mut machine, &old, first, &mut out)?;
-    send_later(alloc, &mut machine, &old, &new, second, &mut out)?;
-    end(alloc, &mut machine, &new, Ending::Input)?;
-    serve_all(alloc, &mut machine, &new, &mut out)?;
-    Ok(closed(alloc, machine, out)?)
+    Ok(run_between(alloc, &old, &new, first, second)?)
 }
 
 fn by_old() -> &'static str {
