@@ -290,12 +290,12 @@ module _ {H : Type 0} (reply_of : List ℕ → Request → Reply) (shape : Shape
 
   -- ---- chunks
 
-  owned_chunk : (chunk : ℕ) → 1 ≤ times chunk v.chunks → IsChunkInHand core v chunk
+  owned_chunk : (chunk : ℕ) → 1 ≤ times chunk v.chunks → IsChunkInHand core s.views v chunk
   owned_chunk chunk mine_too = chunk_in_hand core s.views id v at holds.views.chunks chunk mine_too
 
   carried_once : IsDistinct carried
   carried_once k = elim (cases_lt 0 (times k v.chunks)) [
-    | inl some_there ↦ omega (arith, carries (is_number k), (owned_chunk k (omega (arith, some_there))).once)
+    | inl some_there ↦ omega (arith, carries (is_number k), (owned_chunk k (omega (arith, some_there))).once, sum_at (λ (y : FabricView). times k y.chunks) s.views id v at)
     | inr none ↦ omega (arith, carries (is_number k), none)
   ]
 
@@ -686,7 +686,8 @@ module _ {H : Type 0} (reply_of : List ℕ → Request → Reply) (shape : Shape
       }
 
   pub goes : RequestGoes reply_of shape s holds id v c carried item place stream run_word text
-  goes = record { valid = go.valid; given = go.given; carries = carries_now; step = after_arm }
+  unfolding after_arm
+  goes = record { valid = go.valid; given = go.given; carries = carries_now; step = after_arm; recorded = record_is }
 
 pub arm_line : (H : Type 0) → ArmLineLaw H
 arm_line H reply_of shape s holds id v c carried homes_are at carries stream main engine item place run_word there mine got said said_part fits parcels long values request =

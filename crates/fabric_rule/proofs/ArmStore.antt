@@ -4,7 +4,7 @@ use Rattle.std.specs.Prelude.{Option}
 use mathlib.Core.Option.{some}
 use lib.ListN.{get_elem?}
 use Rattle.atomic_table.specs.Table.{State, Act, stepped, Valid, carried_after}
-use Rattle.atomic_table.proofs.Lists.{set_here}
+use Rattle.atomic_table.proofs.Lists.{set_else, set_here}
 use Rattle.app_queue.proofs.ArmFrames.{is_there}
 use Rattle.carried_slots.specs.Acts.{becomes}
 use Rattle.carried_slots.specs.Carried.{numbers}
@@ -53,11 +53,12 @@ module _ {H : Type 0} (reply_of : List ℕ → Request → Reply) (shape : Shape
         (
           subst (λ (l : List (ℕ × Option (Parcel H))). CarriesSlots (u, l)) (sym goes.given) goes.carries,
           record {
-            moment = record { before = s; holds = holds; was = at; after = stepped s index stream id carried u a; is = set_here s.views id u (is_there s.views id v at) };
+            moment = record { before = s; holds = holds; was = at; after = stepped s index stream id carried u a; is = set_here s.views id u (is_there s.views id v at); others = λ k ne. set_else s.views id k u ne };
             carried = request;
             slots = goes.given;
             posted = ap (λ (l : List (ℕ × Option (Parcel H))). with_posted item place stream run_word (joined request.parcels) (numbers l) (ledger_of v) v) (sym goes.given);
             step = goes.step;
+            recorded = goes.recorded;
           },
         ),
       )

@@ -6,7 +6,7 @@ use mathlib.Core.Option.{some}
 use prog.Atomic.{either}
 use lib.ListN.{get_elem?}
 use Rattle.atomic_table.specs.Table.{State, Act, keeps, stepped, Valid, carried_after}
-use Rattle.atomic_table.proofs.Lists.{exchanged, set_here}
+use Rattle.atomic_table.proofs.Lists.{exchanged, set_else, set_here}
 use Rattle.nncq_ring.specs.Words.{Words}
 use Rattle.nncq_ring.specs.declared.view.RingEvent.TheVariants.{SawEntry, SawHead}
 use Rattle.nncq_ring.proofs.RingParts.{note_at}
@@ -51,7 +51,7 @@ module _ {H : Type 0} (reply_of : List ℕ → Request → Reply) (shape : Shape
 
   -- right before the exchange and right after it
   abbrev moment : (new : ℕ) (u : FabricView) → Moment H reply_of shape id v u
-  moment new u = record { before = s; holds = holds; was = at; after = stepped s index new id carried u keeps; is = set_here s.views id u (is_there s.views id v at) }
+  moment new u = record { before = s; holds = holds; was = at; after = stepped s index new id carried u keeps; is = set_here s.views id u (is_there s.views id v at); others = λ k ne. set_else s.views id k u ne }
 
   hit : found ≡ place → After (place + 1)
   hit is =
@@ -61,7 +61,7 @@ module _ {H : Type 0} (reply_of : List ℕ → Request → Reply) (shape : Shape
         keeps,
         tt,
         step.after,
-        (refl, refl, record { moment = moment (place + 1) u; won = λ same. refl; step = λ same. step; missed = λ ne. absurd (ne is); later = λ ne. absurd (ne is); none = λ ne. absurd (ne is) }),
+        (refl, refl, record { moment = moment (place + 1) u; was = refl; won = λ same. refl; step = λ same. step; missed = λ ne. absurd (ne is); later = λ ne. absurd (ne is); none = λ ne. absurd (ne is) }),
       )
 
   miss : found ≢ place → After found
@@ -78,7 +78,7 @@ module _ {H : Type 0} (reply_of : List ℕ → Request → Reply) (shape : Shape
         keeps,
         tt,
         none.after,
-        (refl, refl, record { moment = moment found u; won = λ same. absurd (ne same); step = λ same. absurd (ne same); missed = λ other. refl; later = λ other. omega (arith, noted, ne); none = λ other. none }),
+        (refl, refl, record { moment = moment found u; was = refl; won = λ same. absurd (ne same); step = λ same. absurd (ne same); missed = λ other. refl; later = λ other. omega (arith, noted, ne); none = λ other. none }),
       )
 
   pub exchanges : After (either (eqb found place) (place + 1) found)

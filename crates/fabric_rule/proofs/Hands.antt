@@ -121,14 +121,10 @@ none_of_other_chunks seat chunk other Unowned ne = refl
 none_of_other_chunks seat chunk other (OfMessage queue item) ne = refl
 none_of_other_chunks seat chunk other (OfSeat k) ne = nothing_of (k == seat) (is_number chunk other) (is_number_other chunk other ne)
 
-at_most_number : (seat chunk other : ℕ) (o : Owner) → owner_weight (one_chunk seat chunk) o other ≤ is_number chunk other
-at_most_number seat chunk other Unowned = omega arith
-at_most_number seat chunk other (OfMessage queue item) = omega arith
-at_most_number seat chunk other (OfSeat k) = chosen_or_none (k == seat) (is_number chunk other)
-  where
-    chosen_or_none : (b : Bool) (n : ℕ) → cond {A = ℕ} b n 0 ≤ n
-    chosen_or_none true n = omega arith
-    chosen_or_none false n = omega arith
+at_most_number : (chunk other : ℕ) (o : Owner) → owner_weight (λ k. is_number chunk) o other ≤ is_number chunk other
+at_most_number chunk other Unowned = omega arith
+at_most_number chunk other (OfMessage queue item) = omega arith
+at_most_number chunk other (OfSeat k) = omega arith
 
 pub chunk_in_hand : ChunkInHandLaw
 chunk_in_hand core views id v at held chunk mine =
@@ -154,5 +150,5 @@ chunk_in_hand core views id v at held chunk mine =
             ]),
           )))
           (owned_or_none v.seat chunk (owner_of core chunk));
-      once = omega (arith, mine_there, held f, sum_at (chunks_at f) views id v at, below_le terms (is_number chunk) n (λ other lt. at_most_number v.seat chunk other (owner_of core other)), below_is n chunk within);
+      once = omega (arith, held (λ k. is_number chunk), below_le (λ other. owner_weight (λ k. is_number chunk) (owner_of core other) other) (is_number chunk) n (λ other lt. at_most_number chunk other (owner_of core other)), below_is n chunk within);
     }

@@ -7,7 +7,7 @@ use mathlib.Core.Option.{some}
 use prog.Atomic.{either}
 use lib.ListN.{get_elem?}
 use Rattle.atomic_table.specs.Table.{Act, State, Valid, carried_after, keeps, stepped}
-use Rattle.atomic_table.proofs.Lists.{exchanged, set_here}
+use Rattle.atomic_table.proofs.Lists.{exchanged, set_else, set_here}
 use Rattle.nncq_ring.specs.Notes.{Noted, RingPart}
 use Rattle.nncq_ring.specs.Words.{SetsTail, Words, logical_tail}
 use Rattle.nncq_ring.specs.declared.view.RingEvent.{RingEvent}
@@ -179,10 +179,10 @@ module _ {H : Type 0} (reply_of : List ℕ → Request → Reply) (shape : Shape
 
   abbrev pub After : ℕ → Type 0
   After new = (u : FabricView) × (a : Act (Option (Parcel H))) × Valid s.homes carried a × FabricHolds reply_of shape (stepped s index new id carried u a)
-      × ((carried_after carried a ≡ carried) × (u.chunks ≡ v.chunks) × Helps H reply_of shape id queue side place (v, carried) (u, carried_after carried a))
+      × ((carried_after carried a ≡ carried) × (u.chunks ≡ v.chunks) × Helps H reply_of shape id queue side place (v, carried) now (u, carried_after carried a))
 
   abbrev moment : (new : ℕ) (u : FabricView) → Moment H reply_of shape id v u
-  moment new u = record { before = s; holds = holds; was = at; after = stepped s index new id carried u keeps; is = set_here s.views id u (is_there s.views id v at) }
+  moment new u = record { before = s; holds = holds; was = at; after = stepped s index new id carried u keeps; is = set_here s.views id u (is_there s.views id v at); others = λ k ne. set_else s.views id k u ne }
 
   hit : now ≡ place → After (place + 1)
   hit is =
@@ -192,7 +192,7 @@ module _ {H : Type 0} (reply_of : List ℕ → Request → Reply) (shape : Shape
         keeps,
         tt,
         none.after,
-        (refl, refl, record { moment = moment (place + 1) u; slots = refl; tail = place + 1; past = omega arith; noted = refl; none = none }),
+        (refl, refl, record { moment = moment (place + 1) u; was = refl; slots = refl; won = λ same. refl; missed = λ ne. absurd (ne is); later = λ ne. absurd (ne is); none = none }),
       )
 
   miss : now ≢ place → After now
@@ -209,7 +209,7 @@ module _ {H : Type 0} (reply_of : List ℕ → Request → Reply) (shape : Shape
         keeps,
         tt,
         none.after,
-        (refl, refl, record { moment = moment now u; slots = refl; tail = now; past = omega (arith, noted, ne); noted = refl; none = none }),
+        (refl, refl, record { moment = moment now u; was = refl; slots = refl; won = λ same. absurd (ne same); missed = λ other. refl; later = λ other. omega (arith, noted, ne); none = none }),
       )
 
   pub exchanges : After (either (eqb now place) (place + 1) now)

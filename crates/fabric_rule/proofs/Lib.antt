@@ -1,5 +1,7 @@
 pub mod ArmLists
 pub mod ArmSteps
+pub mod ArmStore
+pub mod Carrying
 pub mod Contents
 pub mod CoreIs
 pub mod EntrySteps
@@ -19,7 +21,6 @@ pub mod Noting
 pub mod Passing
 pub mod PopSteps
 pub mod Popping
-pub mod ArmStore
 pub mod RingValues
 pub mod Sums
 pub mod TakeSteps

@@ -5,7 +5,7 @@ use Rattle.std.proofs.lemmas.List.{set-get_or}
 use mathlib.Core.Option.{some}
 use lib.ListN.{get_elem?}
 use Rattle.atomic_table.specs.Table.{Act, State, Valid, carried_after, keeps, stepped}
-use Rattle.atomic_table.proofs.Lists.{set_here}
+use Rattle.atomic_table.proofs.Lists.{set_else, set_here}
 use Rattle.app_queue.specs.declared.view.ItemEvent.TheVariants.{RunNoted, PartNoted, TagNoted}
 use Rattle.app_queue.proofs.ArmFrames.{is_there}
 use Rattle.nncq_ring.specs.declared.view.RingEvent.TheVariants.{SawTail, SawHead, SawEntry}
@@ -90,7 +90,8 @@ module _ {H : Type 0} (reply_of : List ℕ → Request → Reply) (shape : Shape
           refl,
           refl,
           record {
-            moment = record { before = s; holds = holds; was = at; after = stepped s index found id carried u keeps; is = set_here s.views id u (is_there s.views id v at) };
+            moment = record { before = s; holds = holds; was = at; after = stepped s index found id carried u keeps; is = set_here s.views id u (is_there s.views id v at); others = λ k ne. set_else s.views id k u ne };
+            was = refl;
             slots = refl;
             noted = refl;
             none = none;

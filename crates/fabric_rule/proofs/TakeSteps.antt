@@ -27,7 +27,7 @@ use Rattle.request_context.specs.declared.piece.Parcel.{Parcel}
 use Rattle.unit_model.specs.ChunkWeights.{run_numbers}
 use Rattle.unit_model.specs.Core.{item_of, owner_of, queue_of, role_of, seat_of}
 use Rattle.unit_model.specs.Effects.{after_step, noted, settled_note, with_item, with_note, with_run_owner}
-use Rattle.unit_model.specs.Holding.{IsInRun, items_of}
+use Rattle.unit_model.specs.Holding.{FitsQueue, IsInRun, items_of}
 use Rattle.unit_model.specs.Limits.{segment_chunks}
 use Rattle.unit_model.specs.PartCounts.{of_stream}
 use Rattle.unit_model.specs.PartOrder.{Each}
@@ -222,6 +222,16 @@ module _ {H : Type 0} (reply_of : List ℕ → Request → Reply) (shape : Shape
 
   was_posted : 1 ≤ by_seat posted core poster stream
   was_posted = subst (λ (k : ℕ). 1 ≤ by_seat posted core k stream) part_is (subst (λ (n : ℕ). 1 ≤ by_seat posted core it.part n) tag_is (holds.keeps.sound.streams.part_is_poster item armed))
+
+  -- who posts is an engine
+  poster_engine : role_in shape poster ≡ 0
+  poster_engine = elim (cases_eq (role_of core poster) 0) [
+    | inl is ↦ sym (ap (λ (sh : Shape). role_in sh poster) holds.shaped) ∙ is
+    | inr ne ↦ absurd (omega (arith, was_posted, ap (times stream) ((holds.keeps.seats poster).engine ne).1))
+  ]
+
+  run_fits : FitsQueue shape 0 run
+  run_fits = subst (λ (sh : Shape). FitsQueue sh 0 run) holds.shaped (subst (λ (r : Run). FitsQueue core.shape 0 r) run_is (holds.keeps.sound.held.owners.fits 0 item armed))
 
   hand : IsInHand core v.seat 0 item
   hand = in_hand core s.views id v at holds.views.items 0 item there'.in_queues mine
@@ -596,7 +606,9 @@ module _ {H : Type 0} (reply_of : List ℕ → Request → Reply) (shape : Shape
   takes = record {
     parcels = come.parcels;
     long = long;
-    request = record { asks = request.asks; posted = refl; asked = request.asked; has = request.has; under = request.under; whole = request.posted ∙ request.whole };
+    request = request;
+    engine = poster_engine;
+    fits = run_fits;
     home = subst (λ (n : ℕ). HaveValuesAtHome n come.parcels s.homes) first_is come.home;
     valid = subst (λ (n : ℕ). Valid s.homes carried (takes_all (full_run n come.parcels))) first_is come.valid;
     taken = taken_now;

@@ -1,12 +1,12 @@
 -- The exchange of a line item's tag by the worker that holds it.
-use Rattle.std.proofs.Common.{ℕ, ◌≡◌, ◌≢◌, eqb, List, [], ◌∷◌, slice_index, set, refl, sym, subst}
+use Rattle.std.proofs.Common.{ℕ, ◌≡◌, ◌≢◌, ⊎_elim, eqb, List, [], ◌∷◌, slice_index, set, refl, sym, subst}
 use Rattle.std.specs.Prelude.{Option}
 use Rattle.std.proofs.lemmas.List.{set-get_or}
 use mathlib.Core.Option.{some}
 use prog.Atomic.{either}
 use lib.ListN.{get_elem?}
 use Rattle.atomic_table.specs.Table.{State, Act, keeps, stepped, Valid, carried_after}
-use Rattle.atomic_table.proofs.Lists.{exchanged, set_here}
+use Rattle.atomic_table.proofs.Lists.{exchanged, set_else, set_here}
 use Rattle.app_queue.specs.declared.view.ItemEvent.TheVariants.{Gone}
 use Rattle.app_queue.proofs.ArmFrames.{is_there}
 use Rattle.carried_slots.specs.Acts.{takes_all}
@@ -54,7 +54,7 @@ module _ {H : Type 0} (reply_of : List ℕ → Request → Reply) (shape : Shape
 
   -- right before the exchange and right after it
   abbrev moment : (new : ℕ) (u : FabricView) → Act (Option (Parcel H)) → Moment H reply_of shape id v u
-  moment new u a = record { before = s; holds = holds; was = at; after = stepped s index new id carried u a; is = set_here s.views id u (is_there s.views id v at) }
+  moment new u a = record { before = s; holds = holds; was = at; after = stepped s index new id carried u a; is = set_here s.views id u (is_there s.views id v at); others = λ k ne. set_else s.views id k u ne }
 
   hit : found ≡ stream → After 0
   hit is =
@@ -69,13 +69,17 @@ module _ {H : Type 0} (reply_of : List ℕ → Request → Reply) (shape : Shape
           subst (λ (l : List (ℕ × Option (Parcel H))). CarriesSlots (u, l)) (sym comes.taken) (comes.carries slots),
           record {
             moment = moment 0 u a;
+            was = refl;
             parcels = comes.parcels;
             long = λ same. comes.long;
             request = λ same. comes.request;
+            engine = λ same. comes.engine;
+            fits = λ same. comes.fits;
             slots = λ same. comes.taken;
             won = λ same. refl;
             step = λ same. comes.step;
             same_slots = λ ne. absurd (ne is);
+            cancelled = λ ne. absurd (ne is);
             missed = λ ne. absurd (ne is);
             none = λ ne. absurd (ne is);
           },
@@ -97,13 +101,17 @@ module _ {H : Type 0} (reply_of : List ℕ → Request → Reply) (shape : Shape
           slots,
           record {
             moment = moment found u keeps;
+            was = refl;
             parcels = [];
             long = λ same. absurd (ne same);
             request = λ same. absurd (ne same);
+            engine = λ same. absurd (ne same);
+            fits = λ same. absurd (ne same);
             slots = λ same. absurd (ne same);
             won = λ same. absurd (ne same);
             step = λ same. absurd (ne same);
             same_slots = λ other. refl;
+            cancelled = λ other told. ⊎_elim (λ is. absurd (ne is)) (λ zero. zero) (holds.notes.tags 0 there.in_queues id v at item there.in_items mine stream told);
             missed = λ other. refl;
             none = λ other. none;
           },

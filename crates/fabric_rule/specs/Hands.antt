@@ -43,13 +43,13 @@ HandsOwnedLaw = (core : Core) (views : List FabricView) → ItemsHeld core views
 
 -- ---- chunks
 
--- a chunk of the fabric, owned by this seat, which a view has once
-pub record IsChunkInHand (core : Core) (v : FabricView) (chunk : ℕ) : Type 0 where
+-- a chunk of the fabric, owned by this seat, which all views together have once
+pub record IsChunkInHand (core : Core) (views : List FabricView) (v : FabricView) (chunk : ℕ) : Type 0 where
   pub within : chunk < segment_chunks * segments_of core.shape
   pub owner : owner_of core chunk ≡ Seat v.seat
-  pub once : times chunk v.chunks ≤ 1
+  pub once : weigh (λ (y : FabricView). times chunk y.chunks) views ≤ 1
 
 abbrev pub ChunkInHandLaw : Type 0
 ChunkInHandLaw = (core : Core) (views : List FabricView) (id : ℕ) (v : FabricView) → get_elem? views id ≡ some v
     → ChunksHeld core views
-    → (chunk : ℕ) → 1 ≤ times chunk v.chunks → IsChunkInHand core v chunk
+    → (chunk : ℕ) → 1 ≤ times chunk v.chunks → IsChunkInHand core views v chunk

@@ -42,7 +42,7 @@ use Rattle.fabric_words.specs.Places.{HasItem, queues_of, segments_of}
 use Rattle.fabric_words.specs.declared.place.Place.{Place}
 use Rattle.fabric_words.specs.declared.place.Place.TheVariants.{Head, Slot, Tail, Tag, RunWord, PartWord}
 use Rattle.fabric_words.specs.declared.place.Side.TheVariants.{FreeSide, LineSide}
-use Rattle.fabric_rule.specs.Contents.{CarriesSlots, IsRecordOf}
+use Rattle.fabric_rule.specs.Contents.{CarriesSlots, IsRecordOf, IsRequest}
 use Rattle.fabric_rule.specs.Passing.{first_of}
 use Rattle.fabric_rule.specs.Rule.{FabricHolds}
 use Rattle.fabric_rule.specs.Views.{emptied_by, got_at, held_at, log_at, logged, part_said, ring_in, run_said, tag_said, word_side}
@@ -248,12 +248,14 @@ with_request item stream poster run text c v = record v {
   log = AtItem 0 (Won item stream) ∷ v.log;
 }
 
--- All slots of the run were at home with the parcels of a request, and come with the stream in one step, in front of what the seat
--- carries.
+-- All slots of the run were at home with the parcels of the record under which the stream was posted, and come with the stream in one
+-- step, in front of what the seat carries. The poster is an engine, and the run fits the queue.
 pub record RequestComes {H : Type 0} (reply_of : List ℕ → Request → Reply) (shape : Shape) (s : State (Option (Parcel H)) FabricView) (holds : FabricHolds reply_of shape s) (id : ℕ) (v : FabricView) (c : Ledger) (carried : List (ℕ × Option (Parcel H))) (item stream poster : ℕ) (run : Run) : Type 0 where
   pub parcels : List (Parcel H)
   pub long : length parcels ≡ chunks_for run.size
-  pub request : IsRecordOf stream parcels
+  pub request : IsRequest holds.records stream parcels
+  pub engine : role_in shape poster ≡ 0
+  pub fits : FitsQueue shape 0 run
   pub home : HaveValuesAtHome (first_of run) parcels s.homes
   pub valid : Valid s.homes carried (takes_all (full_run (first_of run) parcels))
   pub taken : carried_after carried (takes_all (full_run (first_of run) parcels)) ≡ full_run (first_of run) parcels ++ carried
@@ -297,13 +299,14 @@ with_posted item place stream run_word text left c v = record v {
 abbrev pub slots_left : {S : Type 0} → Run → List (ℕ × S) → List (ℕ × S)
 slots_left run carried = run_gone (first_of run) (chunks_for run.size) carried
 
--- The slots of the run go home with the stream in one step, in whatever order they are carried.
+-- The slots of the run go home with the stream in one step, in whatever order they are carried, and the stream has this record.
 pub record RequestGoes {H : Type 0} (reply_of : List ℕ → Request → Reply) (shape : Shape) (s : State (Option (Parcel H)) FabricView) (holds : FabricHolds reply_of shape s) (id : ℕ) (v : FabricView) (c : Ledger) (carried : List (ℕ × Option (Parcel H))) (item place stream run_word : ℕ) (text : List ℕ) : Type 0 where
   pub valid : Valid s.homes carried (becomes carried (slots_left (numbers_of run_word) carried))
   pub given : carried_after carried (becomes carried (slots_left (numbers_of run_word) carried)) ≡ slots_left (numbers_of run_word) carried
   pub carries : CarriesSlots (with_posted item place stream run_word text (numbers (slots_left (numbers_of run_word) carried)) c v, slots_left (numbers_of run_word) carried)
   pub step : IsMachineStep reply_of shape s holds (Arm v.seat 0 item stream)
       (stepped s (offset_of shape (Tag 0 item)) stream id carried (with_posted item place stream run_word text (numbers (slots_left (numbers_of run_word) carried)) c v) (becomes carried (slots_left (numbers_of run_word) carried)))
+  pub recorded : step.after.records stream ≡ text
 
 -- Arm of queue 0: the engine drew the stream, has the item since it got it from the free ring at this place, and noted or stored its
 -- run and its part. It carries the run's slots, with parcels that, joined, are the record of a request under this stream. The chunks

@@ -92,13 +92,13 @@ pub fn each_item_is_in_one_place()
 {}
 
 /// The exchange of a line item's tag by the worker that holds it is Settle, where it won: the stream is taken, and all slots of the
-/// run come with it, with the record that the stream's poster posted.
+/// run come with it, with the record under which its poster, an engine, posted the stream.
 pub fn a_take_is_a_step<H: Handlers>()
     ensures { TakeLaw H }
 {}
 
 /// The store of a line item's tag by the engine that got the item and drew the stream is Arm: the stream is posted, and all slots of
-/// the run go home with it, with the record of the request.
+/// the run go home with it, with the record of the request, which is the stream's from then on.
 pub fn an_arm_is_a_step<H: Handlers>()
     ensures { ArmLineLaw H }
 {}

@@ -40,6 +40,7 @@ impl<S> Tells<S> for Brand {
     ghost tells = { λ found me. Unit {0} };
 }
 
+/// The play of a step that tells what the call picked.
 pub struct Telling<J> {
     pick: PhantomData<J>,
 }
@@ -257,7 +258,7 @@ impl<H: Handlers> FabricTable<H> {
         ensures own { (seat.new.seat.table_id ≡ seat.old.seat.table_id)
             × (seat.new.seat.id ≡ seat.old.seat.id) }
         ensures told { Helps H H.reply_of self.now.table.shared.key seat.old.seat.id queue side place
-            seat.old.seat.me seat.new.seat.me }
+            seat.old.seat.me result seat.new.seat.me }
     {
         let about = (queue, side);
         self.exchange_word::<Brand, (u32, Side)>(&mut seat.seat, word, place, place + 1, about)

@@ -1,9 +1,8 @@
-use Rattle.std.proofs.Common.{◌∙◌, sym, ap, arith}
-use Rattle.carried_slots.specs.Carried.{numbers}
-use Rattle.unit_model.specs.Weights.{weigh}
+use Rattle.std.proofs.Common.{arith}
 use Rattle.fabric_words.specs.declared.place.Place.TheVariants.{Tail}
 use Rattle.fabric_words.proofs.Standing.{within}
 use Rattle.fabric_rule.specs.Views.{word_side}
+use Rattle.fabric_rule.proofs.Carrying.{still_carries}
 use Rattle.fabric_rule.proofs.Helping.{exchanges}
 use Rattle.fabric_rule.proofs.table.FabricTable.help.Goals as goal
 
@@ -25,6 +24,7 @@ exchange_word-requires-clause-allowed g c =
 pub invariant_of-seat : goal.invariant_of-seat
 invariant_of-seat g c =
     let told = c.exchange_word.ensures.told in
-    record {
-      carries = λ f. ap (λ slots. weigh f (numbers slots)) told.0 ∙ c.args.seat.now.carries f ∙ sym (ap (weigh f) told.1);
-    }
+    record { carries = still_carries c.args.seat.now.seat.me c.exchange_word.new.seat.me told.0 told.1 c.args.seat.now.carries }
+
+pub returns-clause-told : goal.returns-clause-told
+returns-clause-told g c = c.exchange_word.ensures.told.2

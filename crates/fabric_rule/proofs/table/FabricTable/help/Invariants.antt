@@ -5,5 +5,5 @@ use Rattle.fabric_rule.proofs.table.FabricTable.help.Given as goal
 abbrev pub ghosts-exchange_word : goal.ghosts-exchange_word
 ghosts-exchange_word g a = record {
   tells = λ found me. (me.1 ≡ a.seat.now.me.1) × (me.0.chunks ≡ a.seat.now.me.0.chunks)
-      × Helps g.row.H.Denot g.H.Handlers.reply_of a.self.now.table.shared.key a.seat.now.id a._about.0 a._about.1 a.old a.seat.now.me me;
+      × Helps g.row.H.Denot g.H.Handlers.reply_of a.self.now.table.shared.key a.seat.now.id a._about.0 a._about.1 a.old a.seat.now.me found me;
 }

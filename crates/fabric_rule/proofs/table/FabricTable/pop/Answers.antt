@@ -2,6 +2,7 @@ use Rattle.std.proofs.Common.{arith}
 use Rattle.fabric_words.specs.declared.place.Place.TheVariants.{Head}
 use Rattle.fabric_words.specs.declared.place.Side.TheVariants.{LineSide}
 use Rattle.fabric_words.proofs.Standing.{within}
+use Rattle.fabric_rule.proofs.Carrying.{still_carries}
 use Rattle.fabric_rule.proofs.Popping.{exchanges}
 use Rattle.fabric_rule.proofs.table.FabricTable.pop.Goals as goal
 
@@ -17,3 +18,11 @@ exchange_word-requires-clause-allowed g c =
     let seat = c.args.seat.now.seat in
     rw c.requires.word
     (λ s holds homes at fits. exchanges g.H.Handlers.reply_of table.key seat.id seat.me.0 seat.me.1 s holds at c.requires.main c.requires.role c.args.queue c.requires.empties c.requires.there c.args.place c.args.entry c.requires.saw c.requires.head c.requires.full)
+
+pub invariant_of-seat : goal.invariant_of-seat
+invariant_of-seat g c =
+    let told = c.exchange_word.ensures.told in
+    record { carries = still_carries c.args.seat.now.seat.me c.exchange_word.new.seat.me told.0 told.1 c.args.seat.now.carries }
+
+pub returns-clause-told : goal.returns-clause-told
+returns-clause-told g c = c.exchange_word.ensures.told.2
