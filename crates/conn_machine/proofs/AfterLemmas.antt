@@ -1,5 +1,5 @@
 -- Configurations that may come next.
-use Rattle.std.proofs.Common.{ℕ, ◌≡◌, ◌<◌, ◌≤◌, arith, Option}
+use Rattle.std.proofs.Common.{◌<◌, ◌≤◌, arith, Option}
 use Rattle.conn_machine.specs.Shows.{IsAfter}
 use Rattle.conn_machine.specs.States.{Numbered}
 

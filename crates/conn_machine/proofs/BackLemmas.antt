@@ -30,9 +30,6 @@ pub behind_both : {A : Type 0} (xs ys zs : List A) → IsBehind xs ys → IsBehi
 behind_both xs ys zs first second =
     (first.0 ++ second.0, second.1 ∙ ap (λ front. front ++ second.0) first.1 ∙ append_assoc xs first.0 second.0)
 
-pub behind_is : {A : Type 0} (xs more ys : List A) → ys ≡ xs ++ more → IsBehind xs ys
-behind_is xs more ys is = (more, is)
-
 front_of_behind : {A : Type 0} (xs ys : List A) → IsBehind xs ys → take (length xs) ys ≡ xs
 front_of_behind xs ys is = ap (take (length xs)) is.1 ∙ take-append_seam xs is.0
 

@@ -3,15 +3,9 @@ use Rattle.std.proofs.Common.{ℕ, ◌≡◌, ◌≤◌, ◌⊎◌, inl, inr, ar
 use Rattle.std.proofs.lemmas.List.{drop-append-le}
 use Rattle.std.proofs.lemmas.Bool.Decides.{Decides-eqb}
 use Rattle.std.specs.Option.{option_or}
-use Rattle.unit_types.specs.declared.message.Reply.{Reply}
-use Rattle.unit_types.specs.declared.message.Request.{Request}
-use Rattle.http_front.specs.Kept.{Kept, marked}
-use Rattle.http_front.specs.Written.{http_bytes}
 use Rattle.conn_machine.specs.declared.pending.Pending.{Pending}
 use Rattle.conn_machine.specs.declared.receipt.Kind.{Kind}
-use Rattle.conn_machine.specs.declared.receipt.Receipt.{Receipt}
-use Rattle.conn_machine.specs.Answers.{closes, is_to_head, reply_line}
-use Rattle.conn_machine.specs.Settling.{Grows, IsBehind, has_met, recovered, replied_in, taken_up_in}
+use Rattle.conn_machine.specs.Settling.{Grows, IsBehind, has_met, recovered, taken_up_in}
 use Rattle.conn_machine.specs.Shows.{Held, IsAfter, ended_with}
 use Rattle.conn_machine.specs.States.{Numbered}
 use Rattle.conn_machine.specs.Turns.{receipt_of}
@@ -20,34 +14,6 @@ use Rattle.conn_machine.proofs.BackLemmas.{behind_same, grows_both}
 pub met_same : (met : Option Numbered) (current : Numbered) → IsAfter met current → has_met current.0 met ≡ true → met ≡ Some current
 met_same None current after is = absurd (cc is)
 met_same (Some m) current after is = ap Some ((after m refl).1 ((Decides-eqb m.0 current.0).0 is))
-
-pub grows_reader : (m : Held) (reader : Kept) → marked reader ≡ marked m.reader → Grows m (record m { reader = reader })
-grows_reader m reader same = record {
-  listener = refl;
-  from = refl;
-  to = refl;
-  ended = refl;
-  given_up = refl;
-  reader = same;
-  met = λ bound is. is;
-  out = behind_same m.out;
-  lines = behind_same m.lines;
-  receipts = behind_same m.receipts;
-}
-
-pub grows_out : (m : Held) (more : List ℕ) → Grows m (record m { out = m.out ++ more })
-grows_out m more = record {
-  listener = refl;
-  from = refl;
-  to = refl;
-  ended = refl;
-  given_up = refl;
-  reader = refl;
-  met = λ bound is. is;
-  out = (more, refl);
-  lines = behind_same m.lines;
-  receipts = behind_same m.receipts;
-}
 
 pub grows_lines : (m : Held) (more : List ℕ) → Grows m (record m { lines = m.lines ++ more })
 grows_lines m more = record {
@@ -89,20 +55,6 @@ grows_ended m number stream kind = record {
   out = behind_same m.out;
   lines = behind_same m.lines;
   receipts = (receipt_of number stream kind ∷ [], refl);
-}
-
-pub grows_replied : (m : Held) (bound : Numbered) (receipt : Receipt) (asked : Option Request) (reply : Reply) → Grows m (replied_in bound receipt asked reply m)
-grows_replied m bound receipt asked reply = record {
-  listener = refl;
-  from = refl;
-  to = refl;
-  ended = refl;
-  given_up = refl;
-  reader = refl;
-  met = λ bound is. is;
-  out = (http_bytes reply (is_to_head asked) (closes asked m.left), refl);
-  lines = (reply_line bound.1 m.from asked reply, refl);
-  receipts = (receipt ∷ [], refl);
 }
 
 pub grows_taken : (m : Held) (current : Numbered) → IsAfter m.met current → Grows m (taken_up_in current m)

@@ -159,7 +159,8 @@ impl<H: Handlers> Machine<H> {
         self.conclude(alloc, conf, stream, Kind::Busy(why), None)
     }
 
-    /// No reply to what is asked came before its deadline; `now` is the reading of the clock that was at or past it.
+    /// No reply to what is asked came before its deadline; `now` is the reading of the clock that was at or past it. Both are in
+    /// milliseconds.
     ///
     /// Fails for want of memory alone; it stands then as before.
     pub fn on_late(

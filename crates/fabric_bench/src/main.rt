@@ -2,7 +2,6 @@
 //! Without words it prints its words.
 #![tactic(auto)]
 
-mod letters;
 mod maps;
 mod queues;
 mod replies;

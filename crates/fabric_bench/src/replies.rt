@@ -1,15 +1,14 @@
 //! Replies that are cut into parts and collected, against a copy of as many bytes, and at twice the size.
 ghost use Rattle.std.specs.Prelude.{◌≡◌, IfOk};
 ghost use Rattle.std.specs.Arc.{arc_value};
-ghost use Rattle.fabric_bench.specs.Letters.{letters_reply};
+ghost use Rattle.timed_sides.specs.Letters.{letters_reply};
 
-use crate::letters::Letters;
 use request_context::{Asked, Collector, Part, Parts, parts};
 use std::alloc::{AllocError, Global};
 use std::io;
 use std::sync::Arc;
 use std::time::Instant;
-use timed_sides::{CopyBytes, Side, Timed, least_times, report, request};
+use timed_sides::{CopyBytes, Letters, Side, Timed, least_times, report, request};
 use unit_types::{Bytes, Handlers, Reply};
 
 const RUNS: u32 = 30;

@@ -5,14 +5,13 @@ ghost use Rattle.carried_slots.specs.RunSlots.{HasEmpty};
 ghost use Rattle.chunk_map.specs.Seats.{BelongsTo as BelongsToMap};
 ghost use Rattle.segment_table.specs.Owning.{BelongsTo, first_of, slots_of};
 
-use crate::letters::Letters;
 use chunk_map::{ChunkMap, Claim, MapSeat};
 use request_context::{Parcel, Pieces};
 use segment_table::{SegSeat, Segments};
 use std::alloc::{AllocError, Global};
 use std::io;
 use std::time::Instant;
-use timed_sides::{Side, Timed, least_times, report};
+use timed_sides::{Letters, Side, Timed, least_times, report};
 use unit_model::Run;
 use unit_types::Bytes;
 

@@ -2,10 +2,12 @@
 //! a program's measurements, and what several of them are run on.
 #![tactic(auto)]
 
+mod letters;
 mod samples;
 mod timing;
 mod words;
 
+pub use letters::Letters;
 pub use samples::{CopyBytes, repeated, request};
 pub use timing::{Side, Timed, Times, least_times, report};
 pub use words::{named, print_words};

@@ -1,15 +1,15 @@
 -- The joined lines of a shape and of steps are taken apart into these lines, and only they say the shape and the steps.
 use Rattle.std.proofs.Common.{◌≡◌, ◌∙◌, ℕ, ◌*◌, ◌^◌, ◌<◌, ◌≤◌, ◌==◌, Bool, true, false, if◌then◌else◌, List, [], ◌∷◌, ◌++◌, length, refl, sym, ap, subst, arith, length-append, inl, inr}
 use Rattle.std.specs.Prelude.{codes, decimal}
-use Rattle.std.specs.List.{list_all, list_any}
+use Rattle.std.specs.List.{list_all}
 use Rattle.std.specs.Char.{is_ascii_digit}
-use Rattle.std.proofs.lemmas.Bool.{and_parts, eqb-true, ne_eqb}
+use Rattle.std.proofs.lemmas.Bool.{eqb-true}
 use Rattle.std.proofs.lemmas.Fmt.{digits_decimal, length-decimal-le}
 use Rattle.std.proofs.lemmas.List.{append_assoc}
-use Rattle.std.proofs.lemmas.List.Folds.{list_any-append}
+use Rattle.trace_check.proofs.LineByLine.{has_end, lines_ended}
 use Rattle.trace_check.proofs.OneSpelling.{one_spelling}
 use Rattle.trace_check.proofs.ReadBack.{read_back}
-use Rattle.unit_types.proofs.SpelledLemmas.{digit_in, own, parts_false}
+use Rattle.unit_types.proofs.SpelledLemmas.{digits_no_byte, no_byte_both, own}
 use Rattle.trace_check.proofs.ShapeLines.{shape_back, shape_spelled, valid_fits}
 use Rattle.trace_check.specs.ReadBack.{FitsStep}
 use Rattle.trace_check.specs.Traces.{AllFit, IsTraceOf, Say, SayShape, SaySteps, shape_line, shape_numbers, trace_of}
@@ -21,26 +21,11 @@ use Rattle.unit_model.specs.declared.machine.Step.TheVariants.{Draw, Claim, Rele
 
 -- ---- a text without LF
 
-abbrev pub has_line_end : List ℕ → Bool
-has_line_end text = list_any (λ b. b == 10) text
+none_joined : (xs ys : List ℕ) → has_end xs ≡ false → has_end ys ≡ false → has_end (xs ++ ys) ≡ false
+none_joined xs ys none more = no_byte_both 10 xs ys none more
 
-none_joined : (xs ys : List ℕ) → has_line_end xs ≡ false → has_line_end ys ≡ false → has_line_end (xs ++ ys) ≡ false
-none_joined xs ys none more = list_any-append (λ b. b == 10) xs ys ∙ rw (none, more) refl
-
-none_in_digits : (ds : List ℕ) → list_all is_ascii_digit ds ≡ true → has_line_end ds ≡ false
-none_in_digits [] e = refl
-none_in_digits (d ∷ ds) e =
-    let both = and_parts (is_ascii_digit d) (list_all is_ascii_digit ds) e in
-    rw (ne_eqb d 10 (omega (arith, digit_in d both.0)), none_in_digits ds both.1) refl
-
--- the first line of an input is what stands in front of the first LF
-first_line : (text rest : List ℕ) → has_line_end text ≡ false → lines_of (text ++ 10 ∷ rest) ≡ (record { text = text; is_ended = true }) ∷ lines_of rest
-first_line [] rest none = refl
-first_line (b ∷ text) rest none =
-    let parts = parts_false (b == 10) (has_line_end text) none in
-    let line : Line = record { text = []; is_ended = true } in
-    ap (λ c. if c then line ∷ lines_of (text ++ 10 ∷ rest) else before_lines b (lines_of (text ++ 10 ∷ rest))) parts.0
-    ∙ ap (λ lines. before_lines b lines) (first_line text rest parts.1)
+none_in_digits : (ds : List ℕ) → list_all is_ascii_digit ds ≡ true → has_end ds ≡ false
+none_in_digits ds e = digits_no_byte 10 ds (omega arith) e
 
 -- ---- the line of a step
 
@@ -48,7 +33,7 @@ abbrev pub AllSmall : List ℕ → Type 0
 AllSmall [] = Unit {0}
 AllSmall (n ∷ ns) = (n < 2 ^ 64) × AllSmall ns
 
-numbers_end : (ns : List ℕ) → AllSmall ns → has_line_end (numbers_text ns) ≡ false
+numbers_end : (ns : List ℕ) → AllSmall ns → has_end (numbers_text ns) ≡ false
 numbers_end [] small = refl
 numbers_end (n ∷ ns) small = none_joined (32 ∷ decimal n) (numbers_text ns) (none_in_digits (decimal n) (digits_decimal own n small.0)) (numbers_end ns small.1)
 
@@ -60,9 +45,9 @@ numbers_length (n ∷ ns) small =
 
 -- a line that LF ends where it should
 abbrev pub IsLine : List ℕ → Type 0
-IsLine bytes = (text : List ℕ) × (bytes ≡ text ++ 10 ∷ []) × (has_line_end text ≡ false) × (length text < 256)
+IsLine bytes = (text : List ℕ) × (bytes ≡ text ++ 10 ∷ []) × (has_end text ≡ false) × (length text < 256)
 
-is_line : (name numbers : List ℕ) → has_line_end name ≡ false → length name ≤ 8 → length numbers ≤ 7 → AllSmall numbers → IsLine (line name numbers)
+is_line : (name numbers : List ℕ) → has_end name ≡ false → length name ≤ 8 → length numbers ≤ 7 → AllSmall numbers → IsLine (line name numbers)
 is_line name numbers none short few small = (
   name ++ numbers_text numbers,
   refl,
@@ -95,7 +80,7 @@ trace_says (step ∷ steps) fits =
     let rest = trace_of steps in
     let said = step_line step fits.0 in
     let front : lines_of (line_of step ++ rest) ≡ (record { text = said.0; is_ended = true }) ∷ lines_of rest =
-    ap (λ bytes. lines_of (bytes ++ rest)) said.1 ∙ ap lines_of (append_assoc said.0 (10 ∷ []) rest) ∙ first_line said.0 rest said.2 in
+    ap (λ bytes. lines_of (bytes ++ rest)) said.1 ∙ ap lines_of (append_assoc said.0 (10 ∷ []) rest) ∙ lines_ended said.0 rest said.2 in
     let P : List Line → Type 0 = λ lines. SaySteps lines (step ∷ steps) in
     subst P (sym front) ((refl, said.3), read_back step fits.0 said.0 said.1, trace_says steps fits.1)
 
@@ -152,7 +137,7 @@ shape_says shape steps fits valid =
     let rest = trace_of steps in
     let said = shape_is_line shape valid in
     let front : lines_of (shape_line shape ++ rest) ≡ (record { text = said.0; is_ended = true }) ∷ lines_of rest =
-    ap (λ bytes. lines_of (bytes ++ rest)) said.1 ∙ ap lines_of (append_assoc said.0 (10 ∷ []) rest) ∙ first_line said.0 rest said.2 in
+    ap (λ bytes. lines_of (bytes ++ rest)) said.1 ∙ ap lines_of (append_assoc said.0 (10 ∷ []) rest) ∙ lines_ended said.0 rest said.2 in
     let P : List Line → Type 0 = λ lines. SayShape lines shape steps in
     subst P (sym front) ((refl, said.3), shape_back shape said.0 valid said.1, valid, trace_says steps fits)
 

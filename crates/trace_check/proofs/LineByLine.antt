@@ -1,5 +1,5 @@
 -- The check byte by byte is the check line by line.
-use Rattle.std.proofs.Common.{◌≡◌, ◌≢◌, ◌∙◌, ⊎_elim, ℕ, ◌+◌, ◌<◌, ◌≤◌, ◌==◌, ◌||◌, Bool, true, false, List, [], ◌∷◌, ◌++◌, length, refl, sym, ap, subst, arith, append_assoc, length-append}
+use Rattle.std.proofs.Common.{◌≡◌, ◌≢◌, ◌∙◌, ⊎_elim, ℕ, ◌+◌, ◌<◌, ◌≤◌, ◌==◌, Bool, true, false, List, [], ◌∷◌, ◌++◌, length, refl, sym, ap, subst, arith, append_assoc, length-append}
 use Rattle.std.specs.List.{list_any}
 use Rattle.std.proofs.lemmas.List.{append-nil}
 use Rattle.std.proofs.lemmas.Bool.{cases_eq, cases_lt, ne_eqb, le-leb, lt-leb}
@@ -15,7 +15,7 @@ abbrev pub has_end : List ℕ → Bool
 has_end text = list_any (λ b. b == 10) text
 
 -- a text without LF stands in front of the first line
-lines_ended : (text bytes : List ℕ) → has_end text ≡ false → lines_of (text ++ 10 ∷ bytes) ≡ (record { text = text; is_ended = true }) ∷ lines_of bytes
+pub lines_ended : (text bytes : List ℕ) → has_end text ≡ false → lines_of (text ++ 10 ∷ bytes) ≡ (record { text = text; is_ended = true }) ∷ lines_of bytes
 lines_ended [] bytes none = refl
 lines_ended (b ∷ text) bytes none =
     let parts = parts_false (b == 10) (has_end text) none in

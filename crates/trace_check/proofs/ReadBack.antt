@@ -1,15 +1,9 @@
 -- The line that a step is told by is read back as that step.
-use Rattle.std.proofs.Common.{◌≡◌, ◌≢◌, ◌∙◌, ⊎_elim, ℕ, suc, ◌+◌, ◌*◌, ◌-◌, ◌^◌, ◌<◌, ◌≤◌, ◌==◌, ◌||◌, Bool, true, false, cond, List, [], ◌∷◌, ◌++◌, length, take, drop, get_or, refl, rules, sym, ap, ap₂, arith, length-append}
-use Rattle.std.specs.Prelude.{Some, None, codes, decimal, fold}
-use Rattle.std.specs.List.{list_all, list_any, position_or_len}
-use Rattle.std.specs.Char.{is_ascii_digit}
-use Rattle.std.specs.Int.{IsInRange}
-use Rattle.std.proofs.lemmas.Bool.{and_parts, cases_eq, le-leb, lt-ltb, ne_eqb}
-use Rattle.std.proofs.lemmas.Fmt.{decimal_nonempty, digits_decimal, digits_value-decimal, decimal_digit, first_decimal}
+use Rattle.std.proofs.Common.{◌≡◌, ◌∙◌, ℕ, ◌^◌, ◌<◌, ◌≤◌, Bool, false, List, [], ◌∷◌, ◌++◌, length, take, refl, sym, ap, ap₂, arith, length-append}
+use Rattle.std.specs.Prelude.{Some, codes, decimal}
 use Rattle.std.proofs.lemmas.List.{append-nil}
-use Rattle.std.proofs.lemmas.Str.Parse.{IsDigitsTest, IsNumeralModel, numerals_by_fold}
 use Rattle.trace_check.specs.Lines.{item_step, kind_of, on_item, run_of, seat_and_chunk, seat_and_number, set_run_of, step_of, step_with, u16_limit, u32_limit, u64_limit}
-use Rattle.trace_check.specs.Numbers.{cut, first_number, number_of}
+use Rattle.trace_check.specs.Numbers.{first_number, number_of}
 use Rattle.unit_types.proofs.SpelledLemmas.{cut_at, decimal_no_byte, has_byte, number_back, take_front}
 use Rattle.trace_check.specs.ReadBack.{FitsStep}
 use Rattle.trace_check.specs.declared.line.ItemKind.{ItemKind}

@@ -1,5 +1,5 @@
 use Rattle.request_context.proofs.Accepted.{next_part}
-use Rattle.fabric_bench.specs.Letters.{letters_reply}
+use Rattle.timed_sides.specs.Letters.{letters_reply}
 use Rattle.fabric_bench.proofs.replies.collected.Goals as goal
 
 pub accept-requires : goal.accept-requires

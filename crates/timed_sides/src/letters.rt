@@ -24,7 +24,7 @@ fn many_letters(alloc: Global, asking: &[u8]) -> Result<Bytes, AllocError>
 }
 
 impl Handlers for Letters {
-    ghost use Rattle.fabric_bench.specs.Letters.{letters_reply, letters_fit, no_names_fit};
+    ghost use Rattle.timed_sides.specs.Letters.{letters_reply, letters_fit, no_names_fit};
 
     ghost reply_of = { letters_reply };
 
