@@ -1,5 +1,6 @@
 //! The words of a queue that was just made.
 ghost use Rattle.std.specs.Prelude.{◌≡◌, ◌≤◌, ◌<◌, ◌+◌, ◌*◌, ◌%◌, ◌⊎◌, ℕ, length, slice_index, IfOk};
+ghost use Rattle.unit_model.specs.Limits.{last_start, most_items};
 ghost use Rattle.nncq_ring.specs.Words.{entry_of};
 ghost use Rattle.app_queue.specs.Opening.{IsFirst};
 
@@ -8,7 +9,7 @@ use std::alloc::{AllocError, Global};
 
 // Sets so many words, from this one on, to the first entries of the free ring, which starts full.
 fn fill_free(words: &mut [u64], size: u32, start: u64)
-    requires size { (1 ≤ size) × (size ≤ 16384) × (size ≤ start) × (start ≤ 4611686018427371519) }
+    requires size { (1 ≤ size) × (size ≤ most_items) × (size ≤ start) × (start ≤ last_start) }
     requires wide { length words.old ≡ 112 + 5 * size }
     ensures filled { (value : ℕ) → value < size
         → slice_index words.new (48 + (start + value) % size)
@@ -23,7 +24,7 @@ fn fill_free(words: &mut [u64], size: u32, start: u64)
 
 // The same of the line, which starts empty.
 fn fill_line(words: &mut [u64], size: u32, start: u64)
-    requires size { (1 ≤ size) × (size ≤ 16384) × (size ≤ start) × (start ≤ 4611686018427371519) }
+    requires size { (1 ≤ size) × (size ≤ most_items) × (size ≤ start) × (start ≤ last_start) }
     requires wide { length words.old ≡ 112 + 5 * size }
     ensures filled { (place : ℕ) → place < start → start ≤ place + size
         → slice_index words.new (96 + size + place % size) ≡ entry_of size place 0 }
@@ -38,7 +39,7 @@ fn fill_line(words: &mut [u64], size: u32, start: u64)
 
 /// The words of a queue whose free ring starts full and whose line starts empty.
 pub fn first_words(alloc: Global, size: u32, start: u64) -> Result<Vec<u64>, AllocError>
-    requires { (1 ≤ size) × (size ≤ 16384) × (size ≤ start) × (start ≤ 4611686018427371519) }
+    requires { (1 ≤ size) × (size ≤ most_items) × (size ≤ start) × (start ≤ last_start) }
     ensures { IfOk result (λ words. IsFirst size start words.items) }
 {
     let items = size as usize;
@@ -49,7 +50,7 @@ pub fn first_words(alloc: Global, size: u32, start: u64) -> Result<Vec<u64>, All
 
 // Sets the heads, tails and entries of both rings in words that are all 0.
 fn fill(words: &mut [u64], size: u32, start: u64)
-    requires size { (1 ≤ size) × (size ≤ 16384) × (size ≤ start) × (start ≤ 4611686018427371519) }
+    requires size { (1 ≤ size) × (size ≤ most_items) × (size ≤ start) × (start ≤ last_start) }
     requires wide { length words.old ≡ 112 + 5 * size }
     requires zero { (i : ℕ) → i < 112 + 5 * size → slice_index words.old i ≡ 0 }
     ensures { IsFirst size start words.new }

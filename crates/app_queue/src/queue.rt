@@ -1,5 +1,6 @@
 //! A queue, and how it and its seats are made and ended.
 ghost use Rattle.std.specs.Prelude.{◌≡◌, ◌≤◌, ◌+◌, ◌*◌, [], ℕ, IfOk};
+ghost use Rattle.unit_model.specs.Limits.{last_start, most_items};
 
 use crate::opening::first_words;
 use crate::plays::{Apart, QueueRule, Together};
@@ -14,7 +15,7 @@ pub struct AppQueue {
     pub(crate) table: Table<u8, QueueView, (u32, u64), QueueRule, Global>,
     pub(crate) size: u32,
     ghost sized: { (table.shared.key.0 ≡ size) × (table.shared.table_id.words ≡ 112 + 5 * size)
-        × (1 ≤ size) × (table.shared.table_id.slots ≡ 0) × (size ≤ 16384) },
+        × (1 ≤ size) × (table.shared.table_id.slots ≡ 0) × (size ≤ most_items) },
 }
 
 impl AppQueue {
@@ -27,8 +28,8 @@ impl AppQueue {
     ///
     /// Fails for want of memory alone.
     pub fn open(alloc: Global, items: u32, start: u64) -> Result<(AppQueue, QueueSeat), AllocError>
-        requires { (1 ≤ items) × (items ≤ 16384) × (items ≤ start)
-            × (start ≤ 4611686018427371519) }
+        requires { (1 ≤ items) × (items ≤ most_items) × (items ≤ start)
+            × (start ≤ last_start) }
         ensures opened { IfOk result (λ r. (items_of r.0 ≡ items) × (start_of r.0 ≡ start)
             × BelongsTo r.1 r.0 × (knows r.1 ≡ empty)) }
         ensures zero { IfOk result (λ r. StartsAtZero r.0 r.1) }

@@ -1,6 +1,6 @@
 -- What holds of a claim's answer.
-use Rattle.chunk_map.specs.declared.searching.Claim.{Claim}
-use Rattle.chunk_map.specs.declared.searching.Claim.TheVariants.{Run, Full}
+use Rattle.chunk_map.specs.declared.search.Claim.{Claim}
+use Rattle.chunk_map.specs.declared.search.Claim.TheVariants.{Run, Full}
 use Rattle.unit_model.specs.declared.runs.Run.{Run as RunOfChunks}
 use Rattle.unit_model.specs.declared.runs.Seen.{Seen}
 

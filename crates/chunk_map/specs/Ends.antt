@@ -1,5 +1,6 @@
 -- What holds when a chunk map is closed.
 use Rattle.std.specs.Prelude.{ℕ, ◌≡◌, ◌*◌, List, slice_index}
+use Rattle.unit_model.specs.Limits.{segment_chunks}
 use Rattle.std.specs.Slots.{slots_items}
 use mathlib.Core.Option.{some}
 use lib.ListN.{get_elem?}
@@ -27,6 +28,7 @@ last_words closed = map_words (slots_items closed.closed.words)
 pub record EndsWith (map : ChunkMap) (seat : MapSeat) (closed : ClosedMap) : Type 0 where
   pub views : List MapView
   pub view : get_elem? views seat.seat.id ≡ some (knows seat)
-  pub owned : Owned held_by (free_weight (last_words closed) (640 * map.segments)) (640 * map.segments) views
+  pub owned : Owned held_by (free_weight (last_words closed) (segment_chunks * map.segments))
+      (segment_chunks * map.segments) views
   pub opened : OpenPart map.segments open_noted (last_open closed) (last_words closed) views
   pub counted : OpeningsCounted openings_of (last_open closed) views

@@ -1,6 +1,7 @@
 -- The rule of a chunk map's table. Table word 0 is the number of open segments. The ten words of segment s stand from table
 -- word 16 * (s + 1) on, so that no two of these lie within 128 bytes of each other.
 use Rattle.std.specs.Prelude.{ℕ, ◌+◌, ◌-◌, ◌*◌, ◌/◌, ◌%◌, ◌^◌, ◌≡◌, ◌≤◌, ◌<◌, ◌⊎◌, length, slice_index, List}
+use Rattle.unit_model.specs.Limits.{segment_chunks}
 use Rattle.std.specs.Int.{bit_at, bit_not, w64}
 use Rattle.atomic_table.specs.Table.{State, Me, Step}
 use Rattle.unit_model.specs.Sharing.{Owned}
@@ -25,7 +26,8 @@ pub record MapHolds {S : Type 0} (segments : ℕ) (s : State S MapView) : Type 0
   pub opened : OpenPart segments open_noted (slice_index s.words 0) (map_words s.words) s.views
   pub counted : OpeningsCounted openings_of (slice_index s.words 0) s.views
   -- each chunk is free, or with exactly one seat
-  pub owned : Owned held_by (free_weight (map_words s.words) (640 * segments)) (640 * segments) s.views
+  pub owned : Owned held_by (free_weight (map_words s.words) (segment_chunks * segments))
+      (segment_chunks * segments) s.views
 
 -- ---- what the steps tell
 

@@ -1,9 +1,10 @@
 //! Claiming runs of chunks of a map with a table of its own, giving them back, and opening segments.
 ghost use Rattle.std.specs.Prelude.{◌≡◌, ◌+◌, ◌*◌, ◌<◌, ◌≤◌, ℕ, ◌-◌, slice_index, true};
+ghost use Rattle.unit_model.specs.Limits.{chunk_bytes, segment_chunks};
 ghost use Rattle.unit_model.specs.Runs.{chunks_for};
 
 use crate::map::ChunkMap;
-use crate::searching::{Claim, claim_run, give_back};
+use crate::search::{Claim, claim_run, give_back};
 use crate::seat::MapSeat;
 use unit_model::Run;
 
@@ -37,7 +38,7 @@ impl ChunkMap {
     /// from then on, also after it was given back.
     pub fn claim_run(&self, seat: &mut MapSeat, size: u32) -> Claim
         requires own { BelongsTo seat.old self.now }
-        requires size { (1 ≤ size) × (size ≤ 10485760) }
+        requires size { (1 ≤ size) × (size ≤ segment_chunks * chunk_bytes) }
         ensures own { BelongsTo seat.new self.now }
         ensures told { Steps does (knows seat.old) (knows seat.new) }
         ensures search { (opened : ℕ) × (1 ≤ opened) × (open_seen (knows seat.old).log ≤ opened)
@@ -53,8 +54,8 @@ impl ChunkMap {
             + weigh f (knows seat.old).held) }
         ensures full { IfFull result (λ seen. Shows seen.words (knows seat.new).log
             × HasNoRun seen (chunks_for size)) }
-        ensures looked { IfFull result (λ seen. (chunk : ℕ) → chunk < 640 * seen.segments
-            → was_looked (knows seat.new).log chunk ≡ true) }
+        ensures looked { IfFull result (λ seen. (chunk : ℕ)
+            → chunk < segment_chunks * seen.segments → was_looked (knows seat.new).log chunk ≡ true) }
         ensures past { IfFull result (λ seen. (number : ℕ) → 10 * seen.segments ≤ number
             → slice_index seen.words number ≡ 0) }
         ensures held { IfFull result (λ seen. (f : ℕ → ℕ)
@@ -67,10 +68,10 @@ impl ChunkMap {
     pub fn release_run(&self, seat: &mut MapSeat, run: Run)
         requires own { BelongsTo seat.old self.now }
         requires held { (i : ℕ) → i < chunks_for run.size
-            → HoldsChunk seat.old (640 * run.segment + run.chunk + i) }
+            → HoldsChunk seat.old (segment_chunks * run.segment + run.chunk + i) }
         ensures own { BelongsTo seat.new self.now }
         ensures view { knows seat.new
-            ≡ given_back does (640 * run.segment + run.chunk) (chunks_for run.size)
+            ≡ given_back does (segment_chunks * run.segment + run.chunk) (chunks_for run.size)
             (knows seat.old) }
         ensures released { (f : ℕ → ℕ)
             → weigh f (run_chunks run) + weigh f (knows seat.new).held

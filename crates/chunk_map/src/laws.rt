@@ -1,5 +1,6 @@
 //! Laws on the words of a map, and what the rule says of all seats. Each function does nothing: its contract is the law.
 ghost use Rattle.std.specs.Prelude.{◌≡◌, ◌≢◌, ◌+◌, ◌*◌, ◌/◌, ◌<◌, ◌≤◌, List, ℕ, set, slice_index, true};
+ghost use Rattle.unit_model.specs.Limits.{segment_chunks};
 ghost use mathlib.Core.Option.{some};
 ghost use lib.ListN.{get_elem?};
 ghost use Rattle.atomic_table.specs.Table.{State};
@@ -35,23 +36,24 @@ pub fn free_weight_stays()
 pub fn open_part_steps()
     ensures { (segments : ℕ) (opened : ℕ) (opened' : ℕ) (word : ℕ → ℕ) (word' : ℕ
         → ℕ) (views : List ℕ) (k : ℕ) (u : ℕ) → opened ≤ opened' → opened' ≤ segments
-        → u ≤ opened' → ((chunk : ℕ) → chunk < 640 * segments → opened' ≤ chunk / 640
-        → is_free word chunk ≡ true → is_free word' chunk ≡ true)
+        → u ≤ opened' → ((chunk : ℕ) → chunk < segment_chunks * segments
+        → opened' ≤ chunk / segment_chunks → is_free word chunk ≡ true → is_free word' chunk ≡ true)
         → OpenPart segments (λ v. v) opened word views
         → OpenPart segments (λ v. v) opened' word' (set views k u) }
 {}
 
 /// Between any two steps each chunk is free, or with exactly one seat, once.
 pub fn each_chunk_is_in_one_place()
-    ensures { (n : ℕ) (s : State ℕ MapView) → MapHolds n s → (chunk : ℕ) → chunk < 640 * n
-        → one_if (is_free (map_words s.words) chunk) + weigh (held_by (is_number chunk)) s.views
+    ensures { (n : ℕ) (s : State ℕ MapView) → MapHolds n s → (chunk : ℕ)
+        → chunk < segment_chunks * n → one_if (is_free (map_words s.words) chunk) + weigh (held_by (is_number chunk)) s.views
         ≡ 1 }
 {}
 
 /// Between any two steps each chunk of a segment that isn't open is free.
 pub fn closed_segments_are_free()
-    ensures { (n : ℕ) (s : State ℕ MapView) → MapHolds n s → (chunk : ℕ) → chunk < 640 * n
-        → slice_index s.words 0 ≤ chunk / 640 → is_free (map_words s.words) chunk ≡ true }
+    ensures { (n : ℕ) (s : State ℕ MapView) → MapHolds n s → (chunk : ℕ)
+        → chunk < segment_chunks * n → slice_index s.words 0 ≤ chunk / segment_chunks
+        → is_free (map_words s.words) chunk ≡ true }
 {}
 
 /// The number of open segments was 1 at first: each number from 2 up to it was made by exactly one exchange, and no higher one.

@@ -6,17 +6,18 @@
 //! with more words in it can be ruled by the same parts.
 #![tactic(auto)]
 
+mod any_map;
 mod claim;
 mod closing;
 mod laws;
 mod map;
 mod map_steps;
+mod run_bits;
 mod search;
-mod searching;
 mod seat;
-mod single;
 mod view;
 
+pub use any_map::MapSteps;
 pub use claim::Opened;
 pub use closing::ClosedMap;
 pub use laws::{
@@ -24,10 +25,9 @@ pub use laws::{
     free_weight_falls, free_weight_rises, free_weight_stays, open_part_steps,
 };
 pub use map::ChunkMap;
-pub use search::{first_from, run_starts};
-pub use searching::{Claim, claim_among, claim_run, give_back};
+pub use run_bits::{first_from, run_starts};
+pub use search::{Claim, claim_among, claim_run, give_back};
 pub use seat::MapSeat;
-pub use single::MapSteps;
 pub use view::{MapEvent, MapView};
 
 #[cfg(test)]

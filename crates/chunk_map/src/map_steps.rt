@@ -1,7 +1,7 @@
 //! A map with a table of its own has the steps of a map.
+use crate::any_map::MapSteps;
 use crate::map::ChunkMap;
 use crate::seat::MapSeat;
-use crate::single::MapSteps;
 
 impl MapSteps for ChunkMap {
     ghost use Rattle.std.specs.Prelude.{refl};

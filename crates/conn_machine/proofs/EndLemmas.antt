@@ -150,7 +150,7 @@ front_now c t s confs receipts more ended session is agrees fits goes session_is
 
 -- ---- what it needs
 
-need_bare : (c : Connection) (s : State) → s.given_up ≡ false → s.out ≡ [] → need_of c s ≡ (if s.closed then Close else need_under c s s.bound)
+pub need_bare : (c : Connection) (s : State) → s.given_up ≡ false → s.out ≡ [] → need_of c s ≡ (if s.closed then Close else need_under c s s.bound)
 need_bare c s stays_up empty =
     ap (λ b. if b then Close else if nat_lt 0 (length s.out) then Write else if s.closed then Close else need_under c s s.bound) stays_up
     ∙ ap (λ (out : List ℕ). if nat_lt 0 (length out) then Write else if s.closed then Close else need_under c s s.bound) empty

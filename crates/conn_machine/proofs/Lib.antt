@@ -14,6 +14,7 @@ mod FrontLaws
 mod GrowsLemmas
 mod NamedTurns
 mod NeedLemmas
+mod OneLemmas
 mod PlainLemmas
 mod RecordLemmas
 mod ReplyingLemmas

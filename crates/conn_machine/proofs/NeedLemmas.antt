@@ -12,12 +12,12 @@ use Rattle.conn_machine.specs.Asking.{asked_of, is_app}
 use Rattle.conn_machine.specs.States.{Numbered, State, unit_under, asks_by, IsSettled, need_under, need_of, asked_by, by_bound, is_ask, asking_of}
 use Rattle.conn_machine.proofs.FrontLaws.{unbegun_waits}
 
-if_false : (b : Bool) (x y z : Need) → (if b then x else y) ≡ z → x ≢ z → (b ≡ false) × (y ≡ z)
+pub if_false : (b : Bool) (x y z : Need) → (if b then x else y) ≡ z → x ≢ z → (b ≡ false) × (y ≡ z)
 if_false true x y z is differs = absurd (differs is)
 if_false false x y z is differs = (refl, is)
 
 -- a connection that needs bytes or a reply is open, and nothing is left to show
-open_need : (c : Connection) (s : State) (z : Need) → need_of c s ≡ z → Close ≢ z → Write ≢ z
+pub open_need : (c : Connection) (s : State) (z : Need) → need_of c s ≡ z → Close ≢ z → Write ≢ z
     → (s.closed ≡ false) × (need_under c s s.bound ≡ z)
 open_need c s z is close write =
     let goes = if s.closed then Close else need_under c s s.bound in
@@ -64,7 +64,7 @@ asked_some c conf cut = refl
 asked_some c conf finished = refl
 asked_some c conf wait = refl
 
-ask_if : (b : Bool) → (if b then Ask else Read) ≡ Ask → b ≡ true
+pub ask_if : (b : Bool) → (if b then Ask else Read) ≡ Ask → b ≡ true
 ask_if true is = refl
 ask_if false is = absurd (cc is)
 

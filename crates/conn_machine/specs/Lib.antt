@@ -2,6 +2,7 @@ pub mod Answers
 pub mod Asking
 pub mod Calls
 pub mod Laws
+pub mod One
 pub mod Records
 pub mod Replying
 pub mod Sessions

@@ -12,11 +12,18 @@ use Rattle.http_front.specs.Reading.{reading_of}
 use Rattle.http_front.specs.Written.{error_reply}
 use Rattle.conn_machine.specs.declared.pending.Pending.{Pending}
 use Rattle.conn_machine.specs.declared.receipt.Kind.{Kind}
+use Rattle.conn_machine.specs.declared.replying.Answer.{Answer}
+use Rattle.conn_machine.specs.declared.replying.Answer.TheVariants.{Made, Given}
 use Rattle.conn_machine.specs.Answers.{Connection}
 use Rattle.conn_machine.specs.Calls.{Account, on_answer}
 use Rattle.conn_machine.specs.Shows.{Held, Carries, IsPending, Shows}
 use Rattle.conn_machine.specs.States.{Numbered, unit_under}
 use Rattle.conn_machine.specs.Turns.{receipt_of}
+
+-- the reply of an answer
+abbrev pub reply_in : Answer → Reply
+reply_in (Made reply) = reply
+reply_in (Given reply) = reply.now
 
 -- the request of a connection that a message is
 abbrev pub request_in : Connection → Message → Request

@@ -1,5 +1,5 @@
 //! What holds of every course of a connection. Each function does nothing: its contract is the law.
-ghost use Rattle.std.specs.Prelude.{◌≡◌, ◌≢◌, ◌↔◌, ◌<◌, ◌≤◌, ◌||◌, ◌++◌, ◌∷◌, Bool, true, false, List, [], ℕ, length, Option, Some, None, slice_get};
+ghost use Rattle.std.specs.Prelude.{◌≡◌, ◌≢◌, ◌↔◌, ◌<◌, ◌≤◌, ◌||◌, ◌++◌, ◌∷◌, Bool, true, false, List, [], ℕ, length, take, Option, Some, None, slice_get};
 ghost use Rattle.std.specs.Option.{is_some};
 ghost use Rattle.unit_types.specs.declared.message.Reply.{Reply};
 ghost use Rattle.unit_types.specs.declared.message.Request.{Request};
@@ -16,13 +16,14 @@ ghost use Rattle.request_context.specs.declared.asked.Asked.{Asked};
 ghost use Rattle.route_match.specs.Target.{target_of};
 ghost use Rattle.conn_machine.specs.declared.receipt.Kind.{Kind};
 ghost use Rattle.conn_machine.specs.declared.receipt.Kind.TheVariants.{App, Busy, Cut, Gone, Late, Memory, Own};
-ghost use Rattle.conn_machine.specs.declared.receipt.Need.TheVariants.{Close, Read};
+ghost use Rattle.conn_machine.specs.declared.receipt.Need.TheVariants.{Ask, Close, Read};
 ghost use Rattle.conn_machine.specs.declared.receipt.Receipt.{Receipt};
 ghost use Rattle.conn_machine.specs.declared.receipt.Why.{Why};
 ghost use Rattle.conn_machine.specs.Answers.{Connection, reply_to};
 ghost use Rattle.conn_machine.specs.Asking.{asked_of, is_app, is_same_asked, timeout_in};
 ghost use Rattle.conn_machine.specs.Calls.{Account, IsSound, Reaches, on_answer, on_bytes, on_end, on_gone, opened, wrote};
 ghost use Rattle.conn_machine.specs.Laws.{ArePlain, NeverFall, plain_connection};
+ghost use Rattle.conn_machine.specs.One.{IsServedByOne, after_reply};
 ghost use Rattle.conn_machine.specs.Sessions.{course_of, is_under_way, log_lines_of, session_of};
 ghost use Rattle.conn_machine.specs.States.{Agrees, Fits, Follows, GoesOn, IsSettled, Numbered, State, Told, asking_of, counted, is_ask, is_over, need_of, unit_under};
 ghost use Rattle.conn_machine.specs.Steps.{at_end, begin, closed_by, fed, given_up, nothing, replied, shown, taken_up, with_bytes, with_given, with_receipt, with_written};
@@ -177,6 +178,34 @@ pub fn laws_of_calls()
         → IsSound c a → Reaches current a → ends_between k ≡ true
         → IsSound c (on_gone current.0 stream k a) }
     ensures wrote { (c : Connection) (a : Account) (n : ℕ) → IsSound c a → IsSound c (wrote n a) }
+{
+    laws_of_units();
+}
+
+/// Of a connection under one configuration, whose whole input came and whose requests are answered by handlers and by the server.
+/// From the first call on so it stays; a reply leaves fewer requests that may come. It needs no more bytes, so where nothing is left
+/// to show and nothing is asked, it is to be closed; and then what was written is its session with the limit and the answers of
+/// that configuration.
+pub fn laws_of_one_configuration()
+    ensures begins { (c : Connection) (current : Numbered) (bytes : List ℕ)
+        → IsServedByOne c current bytes [] (on_end c current (on_bytes c current bytes opened)) }
+    ensures replied { (c : Connection) (current bound : Numbered) (bytes written : List ℕ)
+        (a : Account) (stream : ℕ) (m : Message) (used : ℕ)
+        → IsServedByOne c current bytes written a → 0 < stream → need_of c a.state ≡ Ask
+        → a.state.bound ≡ Some bound → (unit_under bound.1 a.state).found ≡ request m used
+        → IsServedByOne c current bytes written (after_reply c current bound a stream m used)
+        × ((after_reply c current bound a stream m used).state.left < a.state.left) }
+    ensures wrote { (c : Connection) (current : Numbered) (bytes written : List ℕ) (a : Account)
+        (n : ℕ) → IsServedByOne c current bytes written a
+        → IsServedByOne c current bytes (written ++ take n a.state.out) (wrote n a) }
+    ensures reads { (c : Connection) (current : Numbered) (bytes written : List ℕ) (a : Account)
+        → IsServedByOne c current bytes written a → need_of c a.state ≢ Read }
+    ensures closes { (c : Connection) (current : Numbered) (bytes written : List ℕ) (a : Account)
+        → IsServedByOne c current bytes written a → a.state.out ≡ [] → asking_of c a.state ≡ None
+        → need_of c a.state ≡ Close }
+    ensures ends { (c : Connection) (current : Numbered) (bytes written : List ℕ) (a : Account)
+        → IsServedByOne c current bytes written a → need_of c a.state ≡ Close
+        → written ≡ (plain_session_of (plain_connection c current.1) true bytes).written }
 {
     laws_of_units();
 }

@@ -20,8 +20,8 @@ mod tests;
 
 pub use answers::{closes, return_reply};
 pub use laws::{
-    answers_without_changes, laws_of_calls, laws_of_ends, laws_of_sessions, laws_of_steps,
-    laws_of_turns,
+    answers_without_changes, laws_of_calls, laws_of_ends, laws_of_one_configuration,
+    laws_of_sessions, laws_of_steps, laws_of_turns,
 };
 pub use machine::Machine;
 pub use pending::Pending;

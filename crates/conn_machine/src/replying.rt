@@ -6,7 +6,7 @@ ghost use Rattle.http_front.specs.Session.{request_limit};
 ghost use Rattle.conn_machine.specs.Answers.{Connection};
 ghost use Rattle.conn_machine.specs.Calls.{Account, on_answer, settled};
 ghost use Rattle.conn_machine.specs.declared.receipt.Need.TheVariants.{Ask};
-ghost use Rattle.conn_machine.specs.Replying.{IsConcluding, IsReplied, concluded, concluded_by, request_in};
+ghost use Rattle.conn_machine.specs.Replying.{IsConcluding, IsReplied, concluded, concluded_by, reply_in, request_in};
 ghost use Rattle.conn_machine.specs.Settling.{GoesBack, Grows};
 ghost use Rattle.conn_machine.specs.Shows.{Held, IsAfter, IsAsBefore, Shows, Stands, bound_in, need_in};
 ghost use Rattle.conn_machine.specs.States.{Numbered};
@@ -18,13 +18,33 @@ use crate::pending::{Pending, exchange};
 use crate::receipt::Kind;
 use crate::settling::Place;
 use conf_validate::Current;
-use header_rewrite::fielded;
+use header_rewrite::fielded_if_changed;
 use http_front::error_reply;
 use std::alloc::{AllocError, Global};
 use unit_types::{Bytes, Handlers, Reply};
 
 /// The status of a request that is turned away, or late (RFC 9110, section 15.6.4).
 const UNAVAILABLE: u16 = 503;
+
+/// The reply to a request.
+#[derive(Drop)]
+enum Answer<'a> {
+    /// It was made for it.
+    Made(Reply),
+    /// It is the handler's own, which isn't copied.
+    Given(&'a Reply),
+}
+
+impl Answer<'_> {
+    fn reply(&self) -> &Reply
+        ensures { result.now ≡ reply_in self.now }
+    {
+        match self {
+            Answer::Made(reply) => reply,
+            Answer::Given(reply) => reply,
+        }
+    }
+}
 
 impl<H: Handlers> Machine<H> {
     // lets the bytes go that are written, and what an earlier call met
@@ -147,30 +167,35 @@ impl<H: Handlers> Machine<H> {
         ensures grows { Grows self.old self.new }
     {
         let answer = self.concluded(alloc, came, reply)?;
-        self.reply(alloc, Some(&came.asks.1), &answer, stream, kind)?;
+        self.reply(alloc, Some(&came.asks.1), answer.reply(), stream, kind)?;
         self.settle(alloc, conf)
     }
 
     // the handler's reply as the step changes it, or the one that the request is turned away
-    fn concluded(
+    fn concluded<'a>(
         &self,
         alloc: Global,
         came: &Pending,
-        reply: Option<&Reply>,
-    ) -> Result<Reply, AllocError>
+        reply: Option<&'a Reply>,
+    ) -> Result<Answer<'a>, AllocError>
         requires way { is_some (bound_in self.now) ≡ true }
         requires status { IfSome reply (λ r. r.now.status < 1000) }
         ensures reply { IfOk result (λ new. (bound : Numbered) → bound_in self.now ≡ Some bound
-            → new ≡ concluded_by bound.1 came.now.step came.now.asks.1
+            → reply_in new ≡ concluded_by bound.1 came.now.step came.now.asks.1
             (option_map (λ r. r.now) reply.entry)) }
-        ensures status { IfOk result (λ new. new.status < 1000) }
+        ensures status { IfOk result (λ new. (reply_in new).status < 1000) }
     {
         let Some(met) = self.bound() else {
             unreachable!();
         };
         match reply {
-            Some(reply) => fielded(alloc, met.conf(), came.step, &came.asks.1, reply),
-            None => error_reply(alloc, UNAVAILABLE),
+            Some(reply) => {
+                match fielded_if_changed(alloc, met.conf(), came.step, &came.asks.1, reply)? {
+                    Some(made) => Ok(Answer::Made(made)),
+                    None => Ok(Answer::Given(reply)),
+                }
+            }
+            None => Ok(Answer::Made(error_reply(alloc, UNAVAILABLE)?)),
         }
     }
 }

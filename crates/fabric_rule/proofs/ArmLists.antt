@@ -17,7 +17,7 @@ use Rattle.fabric_rule.specs.declared.view.FabricView.{FabricView}
 
 -- ---- lists
 
-each_append : {X : Type 0} (P : X → Type 0) (xs ys : List X) → Each P xs → Each P ys → Each P (xs ++ ys)
+pub each_append : {X : Type 0} (P : X → Type 0) (xs ys : List X) → Each P xs → Each P ys → Each P (xs ++ ys)
 each_append P [] ys one two = two
 each_append P (x ∷ xs) ys one two = (one.0, each_append P xs ys one.1 two)
 

@@ -1,7 +1,5 @@
 -- An item goes into a ring.
-use Rattle.unit_model.specs.declared.machine.Sides.{Sides}
-use Rattle.fabric_rule.specs.declared.event.Segments.TheVariants.{Out, Back}
-use Rattle.std.proofs.Common.{ℕ, ◌+◌, ◌%◌, ◌≡◌, ◌≢◌, ◌≤◌, ◌<◌, ◌⊎◌, ◌==◌, ◌&&◌, inl, inr, ⊎_elim, Bool, true, false, cond, List, [], ◌∷◌, length, set, refl, sym, ap, ◌∙◌, subst, arith, length-set, Some}
+use Rattle.std.proofs.Common.{ℕ, ⊎_elim, ◌+◌, ◌%◌, ◌≡◌, ◌≢◌, ◌≤◌, ◌<◌, ◌⊎◌, ◌==◌, ◌&&◌, inl, inr, Bool, true, false, cond, List, [], ◌∷◌, length, set, refl, sym, ap, ◌∙◌, subst, arith, length-set, Some}
 use Rattle.std.specs.Prelude.{Option}
 use Rattle.std.proofs.lemmas.Bool.{cases_eq, ne_eqb}
 use mathlib.Core.Option.{some}
@@ -25,8 +23,8 @@ use Rattle.request_context.specs.declared.piece.Parcel.{Parcel}
 use Rattle.unit_model.specs.Core.{item_of, owner_of, queue_of, role_of}
 use Rattle.unit_model.specs.Effects.{after_step, with_free, with_in_line, with_item}
 use Rattle.unit_model.specs.Holding.{is_in_free_list, is_in_line, items_of}
-use Rattle.unit_model.specs.PartOrder.{Each}
-use Rattle.unit_model.specs.Premises.{IsInHand}
+use Rattle.unit_model.specs.PartOrder.{PartsInOrder}
+use Rattle.unit_model.specs.Premises.{Fills, IsInHand}
 use Rattle.unit_model.specs.Shapes.{role_in}
 use Rattle.unit_model.specs.Sharing.{Holds}
 use Rattle.unit_model.specs.Weights.{weigh, is_number, one_if}
@@ -54,17 +52,19 @@ use Rattle.fabric_words.specs.declared.place.Side.TheVariants.{FreeSide, LineSid
 use Rattle.fabric_words.proofs.EachStep.{made_step}
 use Rattle.fabric_words.proofs.Frames.{chunk_stays, other_queue, other_side, ring_stays}
 use Rattle.fabric_words.proofs.Standing.{set_word}
-use Rattle.fabric_rule.specs.FrameLaws.{SameLists, StaysUntagged}
-use Rattle.fabric_rule.specs.Parts.{ItemsHeld, IsIdle, KeptAreWorn, OpensNoted, RecordsKnown, hand_weight}
+use Rattle.fabric_rule.specs.FrameLaws.{SameLists}
+use Rattle.fabric_rule.specs.Parts.{ItemsHeld, PostsInWork, WorksShown, hand_weight}
 use Rattle.fabric_rule.specs.Rule.{FabricHolds, NotesAreTrue, ViewsShow}
 use Rattle.fabric_rule.specs.Steps.{GiveItemLaw, IsMachineStep, MayPut, PushLineLaw, is_held, slot_of, with_put}
-use Rattle.fabric_rule.specs.Views.{arms_at, got_at, held_at, is_got, item_log, log_at, open_noted, part_in, part_said, queues_in, ring_in, run_in, run_said, tag_in, tag_kept, tag_said, word_side}
+use Rattle.fabric_rule.specs.Views.{arms_at, got_at, held_at, is_got, item_log, log_at, part_in, part_said, queues_in, ring_in, run_in, run_said, tag_in, tag_kept, tag_said, word_side, works_at}
 use Rattle.fabric_rule.specs.declared.view.FabricView.{FabricView}
 use Rattle.fabric_rule.specs.declared.view.HeldItem.{HeldItem}
-use Rattle.fabric_rule.proofs.Contents.{filled_stay, kept_stay, kept_untagged}
-use Rattle.fabric_rule.proofs.Frames.{chunks_stay, item_moves, of_each, of_fabric}
+use Rattle.fabric_rule.specs.declared.view.Work.{Work}
+use Rattle.fabric_rule.proofs.Contents.{filled_stay}
+use Rattle.fabric_rule.proofs.Frames.{item_moves}
 use Rattle.fabric_rule.proofs.Logs.{other_log, own_log}
-use Rattle.fabric_rule.proofs.ListFrames.{counted_stay, in_work_stay, lists_there, posts_stay, records_stay, streams_stay, works_stay}
+use Rattle.fabric_rule.proofs.ListFrames.{in_work_stay, works_stay}
+use Rattle.fabric_rule.proofs.Staying.{SaysTheSame, moved_alone, views_stay}
 use Rattle.std.proofs.Common.{◌-◌, mod-lt}
 use Rattle.std.proofs.lemmas.List.{length-map}
 use Rattle.std.proofs.lemmas.Bool.{and_parts, cases_Bool, eqb-true}
@@ -77,7 +77,6 @@ use Rattle.fabric_words.specs.Places.{ring_of}
 use Rattle.fabric_words.specs.Shown.{ShowsList, entry_at}
 use Rattle.fabric_rule.proofs.Hands.{in_hand}
 use Rattle.fabric_rule.proofs.ListFrames.{lists_stay}
-use Rattle.fabric_rule.proofs.Passing.{this_or_other}
 
 -- ---- lists
 
@@ -127,7 +126,13 @@ pub record Leaves (word' : Place → ℕ) (core : Core) (step : Step) (queue ite
   pub opened : (after_step core step).opened ≡ core.opened
   pub sets : SetsItem core (after_step core step) queue item (record (item_of core queue item) { whereabouts = gone })
   pub weightless : (f : ℕ → ℕ → ℕ) (i : ℕ) → hand_weight f gone i ≡ 0
-  pub other : OtherStep step
+
+-- what is said of works then, and the order of parts
+pub record OfWorks (popped armed : ℕ → List ℕ) (core : Core) (v u : FabricView) (views : List FabricView) : Type 0 where
+  pub works : WorksShown core armed views
+  pub many : (k : ℕ) → works_at k u ≡ works_at k v
+  pub in_work : PostsInWork core views
+  pub order : PartsInOrder popped armed core
 
 module _ (core : Core) (seat queue item place : ℕ) where
   push_lists : SameLists core (after_step core (Push seat queue item place))
@@ -156,7 +161,7 @@ module _ (core : Core) (seat queue item place : ℕ) where
 
 -- ---- the step
 
-module _ {H : Type 0} (reply_of : List ℕ → Request → Reply) (shape : Shape) (s : State (Option (Parcel H)) FabricView) (holds : FabricHolds reply_of shape s) (id : ℕ) (v : FabricView) (at : get_elem? s.views id ≡ some v) (busy : v.works ≢ [])
+module _ {H : Type 0} (reply_of : List ℕ → Request → Reply) (shape : Shape) (s : State (Option (Parcel H)) FabricView) (holds : FabricHolds reply_of shape s) (id : ℕ) (v : FabricView) (at : get_elem? s.views id ≡ some v) (new_works : List Work) (busy : new_works ≢ [])
     (queue item place : ℕ) (side : Side) (there : HasItem shape queue item) (mine : Holds (held_at queue) item v) (may : MayPut shape s.words v queue side place) where
   abbrev n : ℕ
   n = items_of shape queue
@@ -164,8 +169,9 @@ module _ {H : Type 0} (reply_of : List ℕ → Request → Reply) (shape : Shape
   abbrev e : RingEvent
   e = Pushed place item
 
+  -- the seat's works may change with the step
   abbrev u : FabricView
-  u = with_put queue side item place v
+  u = record (with_put queue side item place v) { works = new_works }
 
   abbrev word : Place → ℕ
   word = word_in shape s.words
@@ -289,18 +295,8 @@ module _ {H : Type 0} (reply_of : List ℕ → Request → Reply) (shape : Shape
     here : item_of core' queue item ≡ record (item_of core queue item) { whereabouts = gone }
     here = item_here core core' queue item (record (item_of core queue item) { whereabouts = gone }) leaves.sets
 
-    record SaysTheSame (old new : Item) : Type 0 where
-      tag : new.tag ≡ old.tag
-      run : new.run ≡ old.run
-      part : new.part ≡ old.part
-      last : new.stream ≡ old.stream
-
     same_item : (q i : ℕ) → SaysTheSame (item_of core q i) (item_of core' q i)
-    same_item q i = ⊎_elim
-        (λ this. subst (λ (r : ℕ). SaysTheSame (item_of core r i) (item_of core' r i)) (sym this.0) (subst (λ (j : ℕ). SaysTheSame (item_of core queue j) (item_of core' queue j)) (sym this.1)
-        (subst (SaysTheSame (item_of core queue item)) (sym here) (record { tag = refl; run = refl; part = refl; last = refl }))))
-        (λ other. subst (SaysTheSame (item_of core q i)) (sym (moved q i other)) (record { tag = refl; run = refl; part = refl; last = refl }))
-        (this_or_other queue item q i)
+    same_item = moved_alone core core' queue item gone leaves.sets
 
     items' : ItemsHeld core' (set s.views id u)
     items' =
@@ -311,109 +307,138 @@ module _ {H : Type 0} (reply_of : List ℕ → Request → Reply) (shape : Shape
         (λ q f ne. omega (arith, held_else q (f v.seat) ne))
         holds.views.items
 
-    opens_same : (y : FabricView) → OpensNoted core y → OpensNoted core' y
-    opens_same y old = record {
-      out = subst (λ (o : Sides). open_noted Out y ≤ o.out) (sym leaves.opened) old.out;
-      back = subst (λ (o : Sides). open_noted Back y ≤ o.back) (sym leaves.opened) old.back;
-    }
-
-    views' : ViewsShow shape word' holds.popped holds.armed holds.records core' (set s.views id u)
-    views' =
-        let old = holds.views in
-        let same : SameLists core core' = leaves.same in
+    views' : (armed' : ℕ → List ℕ) → OfWorks holds.popped armed' core' v u (set s.views id u) → ViewsShow shape word' holds.popped armed' holds.records core' (set s.views id u)
+    views' armed' says =
         let tails : (q : ℕ) → q < queues_of core.shape → (ring_in word q Free).tail ≤ (ring_in word' q Free).tail = λ q lt.
         let is : word' (Tail q FreeSide) ≡ word (Tail q FreeSide) = sets.others (Tail q FreeSide) (subst (λ (sh : Shape). q < queues_of sh) holds.shaped lt) (λ is_slot. absurd (cc is_slot)) in omega (arith, is) in
-        let untagged : (y : FabricView) → Each (StaysUntagged core core') y.kept = kept_untagged core core' (λ q i none. (same_item q i).tag ∙ none) in
-        record {
-          there = of_fabric core core' s.views id v u at same.shape refl refl old.there;
+        views_stay shape word word' holds.popped holds.armed holds.popped armed' holds.records core core' (record { lists = leaves.same; owners = leaves.owners; opened = leaves.opened; items = same_item }) s.views id v u at
+        (record { shape = refl; number = refl; chunks = refl; arms = refl; records = refl; kept = refl; out = refl; back = refl })
+        tails
+        (record {
           items = items';
-          chunks = chunks_stay core core' s.views id v u at same.shape leaves.owners (λ f. refl) old.chunks;
-          opens = of_each (OpensNoted core) (OpensNoted core') s.views id u (record { out = (opens_same v (old.opens id v at)).out; back = (opens_same v (old.opens id v at)).back }) opens_same old.opens;
-          posts = posts_stay core core' s.views id v u at same refl old.posts;
-          streams = streams_stay core core' s.views id v u at same.shape (λ q i. (same_item q i).last) refl old.streams;
-          records_known = of_each (RecordsKnown core holds.records) (RecordsKnown core' holds.records) s.views id u (records_stay core core' holds.records v u same refl (old.records_known id v at)) (λ y. records_stay core core' holds.records y y same refl) old.records_known;
-          lists = lists_stay core core' holds.popped s.views id v u at same refl old.lists;
-          lists_there = lists_there core core' s.views id v u at same.shape (λ k. refl) old.lists_there;
-          works = works_stay core core' holds.armed s.views id v u at same refl refl refl old.works;
-          counted = counted_stay s.views id v u at (λ k. refl) old.counted;
-          idle = of_each (IsIdle shape) (IsIdle shape) s.views id u (λ spent. absurd (busy spent)) (λ y is. is) old.idle;
-          in_work = in_work_stay core core' s.views id v u at same refl old.in_work;
-          kept = of_each (KeptAreWorn core (ring_in word)) (KeptAreWorn core' (ring_in word')) s.views id u
-              (kept_stay core core' (ring_in word) (ring_in word') v u same.shape tails (untagged v) refl (old.kept id v at)) (λ y. kept_stay core core' (ring_in word) (ring_in word') y y same.shape tails (untagged y) refl) old.kept;
-        }
+          lists = lists_stay core core' holds.popped s.views id v u at leaves.same refl holds.views.lists;
+          numbers = λ k. refl;
+          works = says.works;
+          counted = λ k. omega (arith, says.many k);
+          idle = λ spent. absurd (busy spent);
+          in_work = says.in_work;
+        })
+        holds.views
 
-    pub puts : logical_tail n w < w.head + n → (carried : List (ℕ × Option (Parcel H))) → IsMachineStep reply_of shape s holds step (stepped s (offset_of shape (slot_of shape queue side place)) (entry_of n place item) id carried u keeps)
-    puts room carried = record {
+    pub puts : logical_tail n w < w.head + n → (armed' : ℕ → List ℕ) → OfWorks holds.popped armed' core' v u (set s.views id u) → (carried : List (ℕ × Option (Parcel H)))
+        → IsMachineStep reply_of shape s holds step (stepped s (offset_of shape (slot_of shape queue side place)) (entry_of n place item) id carried u keeps)
+    puts room armed' says carried = record {
       enabled = leaves.link.enabled;
       after = record {
         wide = omega (arith, holds.wide, length-set s.words (offset_of shape (slot_of shape queue side place)) (entry_of n place item));
         core = core';
         popped = holds.popped;
-        armed = holds.armed;
+        armed = armed';
         records = holds.records;
         shaped = leaves.same.shape ∙ holds.shaped;
         keeps = record {
           sound = leaves.link.sound;
           items = by_role_stays core step holds.keeps.sound holds.keeps.items leaves.link.enabled;
           seats = seats_by_role_stay core step holds.keeps.seats leaves.link.enabled;
-          order = others_in_order holds.popped holds.armed core step holds.keeps.sound holds.keeps.order leaves.other leaves.link.enabled;
+          order = says.order;
         };
         shows = leaves.link.shows;
         notes = notes' room;
-        views = views';
+        views = views' armed' says;
         free = λ chunk lt is. holds.free chunk lt (sym (chunk_stays shape word word' (slot_of shape queue side place) (entry_of n place item) sets (λ k is_slot. absurd (cc is_slot)) chunk lt) ∙ is);
         filled = filled_stay H reply_of holds.records holds.records core core' s.homes s.homes leaves.same.shape (λ q i has armed. let it = same_item q i in (it.tag, it.run, it.part, refl, λ chunk in_run. refl)) holds.filled;
       };
       is = refl;
     }
 
+    -- where works stay
+    pub still : new_works ≡ v.works → OtherStep step → OfWorks holds.popped holds.armed core' v u (set s.views id u)
+    still same other = record {
+      works = works_stay core core' holds.armed s.views id v u at leaves.same refl same refl holds.views.works;
+      many = λ k. ap (λ (l : List Work). cond {A = ℕ} (v.seat == k) (length l) 0) same;
+      in_work = in_work_stay core core' s.views id v u at leaves.same same holds.views.in_work;
+      order = others_in_order holds.popped holds.armed core step holds.keeps.sound holds.keeps.order other leaves.link.enabled;
+    }
+
+-- ---- Push
+
+-- by a seat that fills the queue, of an item that is armed
+module _ {H : Type 0} (reply_of : List ℕ → Request → Reply) (shape : Shape) (s : State (Option (Parcel H)) FabricView) (holds : FabricHolds reply_of shape s) (id : ℕ) (v : FabricView) (at : get_elem? s.views id ≡ some v) (new_works : List Work) (busy : new_works ≢ [])
+    (queue item place : ℕ) (there : HasItem shape queue item) (mine : Holds (held_at queue) item v) (may : MayPut shape s.words v queue Line place) (fills : Fills holds.core v.seat queue) (tagged : word_in shape s.words (Tag queue item) ≢ 0) where
+  abbrev pub pushed : Core
+  pushed = after_step holds.core (Push v.seat queue item place)
+
+  abbrev pub put : FabricView
+  put = record (with_put queue Line item place v) { works = new_works }
+
+  abbrev put_words : List ℕ
+  put_words = set s.words (offset_of shape (slot_of shape queue Line place)) (entry_of (items_of shape queue) place item)
+
+  in_hand_now : IsInHand holds.core v.seat queue item
+  in_hand_now = hand reply_of shape s holds id v at new_works busy queue item place Line there mine may
+
+  below_n : item < length (queue_of holds.core queue).items
+  below_n = inside reply_of shape s holds id v at new_works busy queue item place Line there mine may
+
+  pub push_leaves : Leaves (word_in shape put_words) holds.core (Push v.seat queue item place) queue item InLine
+  push_leaves =
+      let core : Core = holds.core in
+      record {
+        link = made_step shape (word_in shape s.words) (word_in shape put_words) (Push v.seat queue item place) (sets reply_of shape s holds id v at new_works busy queue item place Line there mine may) core holds.shaped holds.keeps.sound holds.shows
+            (record { fills = fills; hand = in_hand_now; armed = tagged; low = omega (arith, may.low); vacant = vacant reply_of shape s holds id v at new_works busy queue item place Line there mine may });
+        same = push_lists core v.seat queue item place;
+        owners = push_owner core v.seat queue item place;
+        opened = push_opened core v.seat queue item place;
+        sets = sets_after_push core v.seat queue item place below_n;
+        weightless = λ f i. refl;
+      }
+
+  pub pushes : (armed' : ℕ → List ℕ) → OfWorks holds.popped armed' pushed v put (set s.views id put) → (carried : List (ℕ × Option (Parcel H)))
+      → IsMachineStep reply_of shape s holds (Push v.seat queue item place) (stepped s (offset_of shape (slot_of shape queue Line place)) (entry_of (items_of shape queue) place item) id carried put keeps)
+  pushes armed' says carried =
+      let core : Core = holds.core in
+      let off : is_in_line (item_of core queue item).whereabouts ≡ false = ap is_in_line in_hand_now in
+      let short : length (queue_of core queue).line < length (queue_of core queue).items = list_has_room (queue_of core queue) is_in_line (queue_of core queue).line (holds.keeps.sound.held.queues queue).line item below_n off in
+      puts reply_of shape s holds id v at new_works busy queue item place Line there mine may (Push v.seat queue item place) InLine push_leaves
+      (room_of (items_of shape queue) (ring_in (word_in shape s.words) queue Line) (queue_of core queue).line (queue_of core queue).next_line
+      (subst (λ (sh : Shape). ShowsList (items_of sh queue) (ring_of (word_in shape s.words) queue LineSide) (queue_of core queue).line (queue_of core queue).next_line) holds.shaped (holds.shows.line queue (subst (λ (sh : Shape). queue < queues_of sh) (sym holds.shaped) there.in_queues)))
+      (omega (arith, short, sized reply_of shape s holds id v at new_works busy queue item place Line there mine may)))
+      armed' says carried
+
 -- ---- the laws
 
 pub push_line : (H : Type 0) → PushLineLaw H
-push_line H reply_of shape s holds id v carried at busy engine item place stream there mine said some_stream may =
-    let core : Core = holds.core in
-    let word : Place → ℕ = word_in shape s.words in
-    let role : role_of core v.seat ≡ 0 = ap (λ (sh : Shape). role_in sh v.seat) holds.shaped ∙ engine in
-    let in_hand_now : IsInHand core v.seat 0 item = hand reply_of shape s holds id v at busy 0 item place Line there mine may in
-    let tag : word (Tag 0 item) ≡ stream = holds.notes.kept_tags 0 there.in_queues id v at item there.in_items mine stream (said, inr engine) in
-    let below_n : item < length (queue_of core 0).items = inside reply_of shape s holds id v at busy 0 item place Line there mine may in
-    let off : is_in_line (item_of core 0 item).whereabouts ≡ false = ap is_in_line in_hand_now in
-    let short : length (queue_of core 0).line < length (queue_of core 0).items = list_has_room (queue_of core 0) is_in_line (queue_of core 0).line (holds.keeps.sound.held.queues 0).line item below_n off in
-    let link = made_step shape word (word_in shape (set s.words (offset_of shape (slot_of shape 0 Line place)) (entry_of (items_of shape 0) place item))) (Push v.seat 0 item place) (sets reply_of shape s holds id v at busy 0 item place Line there mine may) core holds.shaped holds.keeps.sound holds.shows
-    (record {
-      fills = record { role = omega (arith, role); side = ap (λ (r : ℕ). r == 0) role };
-      hand = in_hand_now;
-      armed = λ none. some_stream (sym tag ∙ none);
-      low = omega (arith, may.low);
-      vacant = vacant reply_of shape s holds id v at busy 0 item place Line there mine may;
-    }) in
-    puts reply_of shape s holds id v at busy 0 item place Line there mine may (Push v.seat 0 item place) InLine
-    (record { link = link; same = push_lists core v.seat 0 item place; owners = push_owner core v.seat 0 item place; opened = push_opened core v.seat 0 item place; sets = sets_after_push core v.seat 0 item place below_n; weightless = λ f i. refl; other = refl })
-    (room_of (items_of shape 0) (ring_in word 0 Line) (queue_of core 0).line (queue_of core 0).next_line
-    (subst (λ (sh : Shape). ShowsList (items_of sh 0) (ring_of word 0 LineSide) (queue_of core 0).line (queue_of core 0).next_line) holds.shaped (holds.shows.line 0 (subst (λ (sh : Shape). 0 < queues_of sh) (sym holds.shaped) there.in_queues)))
-    (omega (arith, short, sized reply_of shape s holds id v at busy 0 item place Line there mine may)))
+push_line H reply_of shape s holds id v carried at busy engine item place stream there mine said some_stream own may =
+    let role : role_of holds.core v.seat ≡ 0 = ap (λ (sh : Shape). role_in sh v.seat) holds.shaped ∙ engine in
+    let fills : Fills holds.core v.seat 0 = record { role = omega (arith, role); side = ap (λ (r : ℕ). r == 0) role } in
+    let tag : word_in shape s.words (Tag 0 item) ≡ stream = holds.notes.kept_tags 0 there.in_queues id v at item there.in_items mine stream (said, inr (engine, own)) in
+    let tagged : word_in shape s.words (Tag 0 item) ≢ 0 = λ none. some_stream (sym tag ∙ none) in
+    pushes reply_of shape s holds id v at v.works busy 0 item place there mine may fills tagged holds.armed
+    (still reply_of shape s holds id v at v.works busy 0 item place Line there mine may (Push v.seat 0 item place) InLine (push_leaves reply_of shape s holds id v at v.works busy 0 item place there mine may fills tagged) refl refl)
     carried
 
 pub give_item : (H : Type 0) → GiveItemLaw H
 give_item H reply_of shape s holds id v carried at busy queue item place there mine said may =
     let core : Core = holds.core in
     let word : Place → ℕ = word_in shape s.words in
-    let in_hand_now : IsInHand core v.seat queue item = hand reply_of shape s holds id v at busy queue item place Free there mine may in
+    let in_hand_now : IsInHand core v.seat queue item = hand reply_of shape s holds id v at v.works busy queue item place Free there mine may in
     let tag : word (Tag queue item) ≡ 0 = ⊎_elim (λ is. is) (λ is. is) (holds.notes.tags queue there.in_queues id v at item there.in_items mine 0 said) in
-    let below_n : item < length (queue_of core queue).items = inside reply_of shape s holds id v at busy queue item place Free there mine may in
+    let below_n : item < length (queue_of core queue).items = inside reply_of shape s holds id v at v.works busy queue item place Free there mine may in
     let off : is_in_free_list (item_of core queue item).whereabouts ≡ false = ap is_in_free_list in_hand_now in
     let short : length (queue_of core queue).free < length (queue_of core queue).items = list_has_room (queue_of core queue) is_in_free_list (queue_of core queue).free (holds.keeps.sound.held.queues queue).free item below_n off in
-    let link = made_step shape word (word_in shape (set s.words (offset_of shape (slot_of shape queue Free place)) (entry_of (items_of shape queue) place item))) (GiveItem v.seat queue item place) (sets reply_of shape s holds id v at busy queue item place Free there mine may) core holds.shaped holds.keeps.sound holds.shows
+    let words' : List ℕ = set s.words (offset_of shape (slot_of shape queue Free place)) (entry_of (items_of shape queue) place item) in
+    let link = made_step shape word (word_in shape words') (GiveItem v.seat queue item place) (sets reply_of shape s holds id v at v.works busy queue item place Free there mine may) core holds.shaped holds.keeps.sound holds.shows
     (record {
       role = (holds.views.there id v at).role;
       hand = in_hand_now;
       untagged = tag;
       low = omega (arith, may.low);
-      vacant = vacant reply_of shape s holds id v at busy queue item place Free there mine may;
+      vacant = vacant reply_of shape s holds id v at v.works busy queue item place Free there mine may;
     }) in
-    puts reply_of shape s holds id v at busy queue item place Free there mine may (GiveItem v.seat queue item place) InFreeList
-    (record { link = link; same = give_lists core v.seat queue item place; owners = give_owner core v.seat queue item place; opened = give_opened core v.seat queue item place; sets = sets_after_give core v.seat queue item place below_n; weightless = λ f i. refl; other = tt })
+    let leaves : Leaves (word_in shape words') core (GiveItem v.seat queue item place) queue item InFreeList =
+    record { link = link; same = give_lists core v.seat queue item place; owners = give_owner core v.seat queue item place; opened = give_opened core v.seat queue item place; sets = sets_after_give core v.seat queue item place below_n; weightless = λ f i. refl } in
+    puts reply_of shape s holds id v at v.works busy queue item place Free there mine may (GiveItem v.seat queue item place) InFreeList leaves
     (room_of (items_of shape queue) (ring_in word queue Free) (queue_of core queue).free (queue_of core queue).next_free
     (subst (λ (sh : Shape). ShowsList (items_of sh queue) (ring_of word queue FreeSide) (queue_of core queue).free (queue_of core queue).next_free) holds.shaped (holds.shows.free queue (subst (λ (sh : Shape). queue < queues_of sh) (sym holds.shaped) there.in_queues)))
-    (omega (arith, short, sized reply_of shape s holds id v at busy queue item place Free there mine may)))
-    carried
+    (omega (arith, short, sized reply_of shape s holds id v at v.works busy queue item place Free there mine may)))
+    holds.armed (still reply_of shape s holds id v at v.works busy queue item place Free there mine may (GiveItem v.seat queue item place) InFreeList leaves refl tt) carried

@@ -28,7 +28,7 @@ use Rattle.fabric_rule.specs.declared.view.KeptItem.{KeptItem}
 abbrev one_hand : ℕ → ℕ → ℕ → ℕ → ℕ
 one_hand seat item k i = cond (k == seat) (is_number item i) 0
 
-nothing_of : (b : Bool) (n : ℕ) → n ≡ 0 → cond {A = ℕ} b n 0 ≡ 0
+pub nothing_of : (b : Bool) (n : ℕ) → n ≡ 0 → cond {A = ℕ} b n 0 ≡ 0
 nothing_of true n is = is
 nothing_of false n is = refl
 

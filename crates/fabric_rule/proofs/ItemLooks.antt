@@ -40,14 +40,14 @@ module _ {H : Type 0} (reply_of : List ℕ → Request → Reply) (shape : Shape
   abbrev pub core : Core
   core = holds.core
 
-  abbrev after : ItemEvent → FabricView
+  abbrev pub after : ItemEvent → FabricView
   after e = logged (AtItem queue e) v
 
   -- what a log says, where it has one event more that doesn't touch it
-  abbrev Untouched : (X : Type 0) → (ℕ → List ItemEvent → X) → ItemEvent → Type 0
+  abbrev pub Untouched : (X : Type 0) → (ℕ → List ItemEvent → X) → ItemEvent → Type 0
   Untouched X says e = (i : ℕ) (es : List ItemEvent) → says i (e ∷ es) ≡ says i es
 
-  said : (X : Type 0) (says : ℕ → List ItemEvent → X) (e : ItemEvent) → Untouched X says e → (q i : ℕ) → says i (item_log q (after e).log) ≡ says i (item_log q v.log)
+  pub said : (X : Type 0) (says : ℕ → List ItemEvent → X) (e : ItemEvent) → Untouched X says e → (q i : ℕ) → says i (item_log q (after e).log) ≡ says i (item_log q v.log)
   said X says e untouched q i = by (queue == q)
     where
       by : (b : Bool) → says i (cond b (e ∷ item_log q v.log) (item_log q v.log)) ≡ says i (item_log q v.log)
@@ -55,10 +55,10 @@ module _ {H : Type 0} (reply_of : List ℕ → Request → Reply) (shape : Shape
       by false = refl
 
   -- and where it has one that says something of one item: of another one it says what it said
-  abbrev SaysOf : (ℕ → List ItemEvent → Option ℕ) → ℕ → ℕ → ItemEvent → Type 0
+  abbrev pub SaysOf : (ℕ → List ItemEvent → Option ℕ) → ℕ → ℕ → ItemEvent → Type 0
   SaysOf says item x e = (i : ℕ) (es : List ItemEvent) → says i (e ∷ es) ≡ cond (item == i) (Some x) (says i es)
 
-  said_else : (says : ℕ → List ItemEvent → Option ℕ) (item x : ℕ) (e : ItemEvent) → SaysOf says item x e → (q i : ℕ) → (q ≢ queue) ⊎ (i ≢ item) → (y : ℕ) → says i (item_log q (after e).log) ≡ Some y → says i (item_log q v.log) ≡ Some y
+  pub said_else : (says : ℕ → List ItemEvent → Option ℕ) (item x : ℕ) (e : ItemEvent) → SaysOf says item x e → (q i : ℕ) → (q ≢ queue) ⊎ (i ≢ item) → (y : ℕ) → says i (item_log q (after e).log) ≡ Some y → says i (item_log q v.log) ≡ Some y
   said_else says item x e of q i (inl ne) y told = subst (λ (b : Bool). says i (cond b (e ∷ item_log q v.log) (item_log q v.log)) ≡ Some y) (ne_eqb queue q (λ is. ne (sym is))) told
   said_else says item x e of q i (inr ne) y told = by (queue == q) told
     where
@@ -66,7 +66,7 @@ module _ {H : Type 0} (reply_of : List ℕ → Request → Reply) (shape : Shape
       by true told = told_else item i (Some x) (says i (item_log q v.log)) y ne (sym (of i (item_log q v.log)) ∙ told)
       by false told = told
 
-  said_here : (says : ℕ → List ItemEvent → Option ℕ) (item x : ℕ) (e : ItemEvent) → SaysOf says item x e → (y : ℕ) → says item (item_log queue (after e).log) ≡ Some y → x ≡ y
+  pub said_here : (says : ℕ → List ItemEvent → Option ℕ) (item x : ℕ) (e : ItemEvent) → SaysOf says item x e → (y : ℕ) → says item (item_log queue (after e).log) ≡ Some y → x ≡ y
   said_here says item x e of y told =
       let here : says item (e ∷ item_log queue v.log) ≡ Some y = subst (λ (b : Bool). says item (cond b (e ∷ item_log queue v.log) (item_log queue v.log)) ≡ Some y) (eq-eqb queue queue refl) told in
       let both : Some x ≡ Some y = told_here item (Some x) (says item (item_log queue v.log)) y (sym (of item (item_log queue v.log)) ∙ here) in

@@ -43,7 +43,7 @@ keyed_join V has fact views id other v w both spent here also there parts nothin
 }
 
 -- of no view that has it the fact could be so: then none has the key
-each_zero : {V : Type 0} (f : V → ℕ) (views : List V) → ((at : ℕ) (v : V) → get_elem? views at ≡ some v → f v ≡ 0) → weigh f views ≡ 0
+pub each_zero : {V : Type 0} (f : V → ℕ) (views : List V) → ((at : ℕ) (v : V) → get_elem? views at ≡ some v → f v ≡ 0) → weigh f views ≡ 0
 each_zero f [] zeros = refl
 each_zero f (x ∷ xs) zeros = omega (arith, zeros 0 x refl, each_zero f xs (λ at v there. zeros (suc at) v there))
 

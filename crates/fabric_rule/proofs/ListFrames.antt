@@ -1,6 +1,6 @@
 -- What a step leaves of lists and works, where no seat's lists change.
 use Rattle.app_queue.specs.Arms.{Arm}
-use Rattle.std.proofs.Common.{ℕ, zero, suc, ◌+◌, ◌/◌, ◌≡◌, ◌≤◌, ◌<◌, inl, inr, ⊎_elim, cond, ◌==◌, List, [], ◌∷◌, ◌++◌, set, refl, sym, ap, ◌∙◌, subst, arith, get_or}
+use Rattle.std.proofs.Common.{ℕ, zero, suc, ◌+◌, ◌/◌, ◌≡◌, ◌≤◌, ◌<◌, inl, inr, ⊎_elim, List, [], ◌∷◌, ◌++◌, set, refl, sym, ap, ◌∙◌, subst, arith, get_or}
 use mathlib.Core.Option.{some, some-injective}
 use lib.ListN.{get_elem?}
 use Rattle.unit_model.specs.Core.{no_seat, seat_of}
@@ -14,7 +14,7 @@ use Rattle.unit_model.specs.declared.shape.Shape.{Shape}
 use Rattle.unit_model.proofs.Views.{sum_set}
 use Rattle.fabric_words.specs.Places.{HasItem}
 use Rattle.fabric_rule.specs.FrameLaws.{SameLists, PostsStayLaw, StreamsStayLaw, RecordsStayLaw, ListsStayLaw, ListsThereLaw, WorksStayLaw, CountedStayLaw, InWorkStayLaw}
-use Rattle.fabric_rule.specs.Parts.{IsPosting, IsOwn, IsCause, IsRefused, IsTrueLedger, ShowsLists, KnowsDrawn, KnowsPosted, KnowsTaken, KnowsSending, KnowsWork, ShowsWorks, AwaitsReply, filled_items}
+use Rattle.fabric_rule.specs.Parts.{IsPosting, IsOwn, IsCause, IsRefused, IsTrueLedger, ShowsLists, KnowsDrawn, KnowsPosted, KnowsTaken, KnowsSending, KnowsWork, ShowsWorks, AwaitsReply, filled_in}
 use Rattle.fabric_rule.specs.Views.{all_arms, arms_among, latest_arm, stream_of_arm, posts_at, lists_at, opens_at, works_at, draw_at, draw_weight, take_weight}
 use Rattle.fabric_rule.specs.declared.cause.Cause.{Cause}
 use Rattle.fabric_rule.specs.declared.cause.Cause.TheVariants.{NoChunks, NoItem, Worn}
@@ -40,7 +40,7 @@ same_posted core core' same stream = ap (over_all (is_number stream) posted) sam
 pub cause_stays : (core core' : Core) → core'.shape ≡ core.shape → (seat stream : ℕ) → (IsOwn core seat stream → IsOwn core' seat stream) → (cause : Cause) → IsCause core seat stream cause → IsCause core' seat stream cause
 cause_stays core core' shape seat stream own (NoChunks size seen) old = (old.0, own old.1)
 cause_stays core core' shape seat stream own (NoItem place entry) old =
-    let many : filled_items core' seat ≡ filled_items core seat = ap (λ (s : Shape). cond (role_in s seat == 0) s.items s.back_items) shape in
+    let many : filled_in core'.shape seat ≡ filled_in core.shape seat = ap (λ (s : Shape). filled_in s seat) shape in
     (subst (λ (n : ℕ). entry / n + 1 ≡ place / n) (sym many) old.0, own old.1)
 cause_stays core core' shape seat stream own (Worn place) old = (old.0, ⊎_elim (λ none. inl none) (λ mine. inr (own mine)) old.1)
 

@@ -1,7 +1,5 @@
 -- A seat pops the queue that it empties.
-use Rattle.unit_model.specs.declared.machine.Sides.{Sides}
-use Rattle.fabric_rule.specs.declared.event.Segments.TheVariants.{Out, Back}
-use Rattle.std.proofs.Common.{ℕ, ◌+◌, ◌/◌, ◌%◌, ◌^◌, ◌≡◌, ◌≢◌, ◌≤◌, ◌<◌, ◌⊎◌, ◌==◌, ◌&&◌, inl, inr, ⊎_elim, Bool, true, false, cond, List, [], ◌∷◌, length, set, refl, sym, ap, ◌∙◌, subst, arith, length-set, Some, None}
+use Rattle.std.proofs.Common.{ℕ, ⊎_elim, ◌+◌, ◌/◌, ◌%◌, ◌^◌, ◌≡◌, ◌≢◌, ◌≤◌, ◌<◌, ◌⊎◌, ◌==◌, ◌&&◌, inl, inr, Bool, true, false, cond, List, [], ◌∷◌, length, set, refl, sym, ap, ◌∙◌, subst, arith, length-set, Some, None}
 use Rattle.std.specs.Prelude.{Option}
 use Rattle.std.proofs.lemmas.Bool.{cases_eq, eq-eqb, ne_eqb}
 use mathlib.Core.Option.{some}
@@ -69,20 +67,21 @@ use Rattle.fabric_words.specs.declared.place.Side.TheVariants.{FreeSide, LineSid
 use Rattle.fabric_words.proofs.EachStep.{made_step}
 use Rattle.fabric_words.proofs.Frames.{chunk_stays, item_there, other_queue, other_side, ring_stays}
 use Rattle.fabric_words.proofs.Standing.{set_word}
-use Rattle.fabric_rule.specs.FrameLaws.{SameLists, StaysUntagged}
-use Rattle.fabric_rule.specs.Parts.{ItemsHeld, IsEmptyHanded, IsIdle, IsTrueLedger, KeptAreWorn, ListsShown, OpensNoted, RecordsKnown, ShowsLists, hand_weight}
+use Rattle.fabric_rule.specs.FrameLaws.{SameLists}
+use Rattle.fabric_rule.specs.Parts.{ItemsHeld, IsEmptyHanded, IsIdle, IsTrueLedger, ListsShown, ShowsLists, hand_weight}
 use Rattle.fabric_rule.specs.Rule.{FabricHolds, NotesAreTrue, ViewsShow}
 use Rattle.fabric_rule.specs.Steps.{IsMachineStep, IsMain, PopLaw, with_popped}
-use Rattle.fabric_rule.specs.Views.{arms_at, emptied_by, got_at, hand_at, held_at, is_got, is_side, item_log, lists_at, log_at, open_noted, part_in, part_said, popped_at, queues_in, ring_in, run_in, run_said, tag_in, tag_kept, tag_said, word_side, words_in}
+use Rattle.fabric_rule.specs.Views.{arms_at, emptied_by, got_at, hand_at, held_at, is_got, is_side, item_log, lists_at, log_at, part_in, part_said, popped_at, queues_in, ring_in, run_in, run_said, tag_in, tag_kept, tag_said, word_side, words_in}
 use Rattle.fabric_rule.specs.declared.view.Ledger.{Ledger}
 use Rattle.fabric_rule.specs.declared.view.FabricView.{FabricView}
 use Rattle.fabric_rule.specs.declared.view.HeldItem.{HeldItem}
-use Rattle.fabric_rule.proofs.Contents.{filled_stay, kept_stay, kept_untagged}
-use Rattle.fabric_rule.proofs.Frames.{chunks_stay, item_moves, of_each, of_fabric}
+use Rattle.fabric_rule.proofs.Contents.{filled_stay}
+use Rattle.fabric_rule.proofs.Frames.{item_moves}
 use Rattle.fabric_rule.proofs.KeyedSteps.{keyed_step}
 use Rattle.fabric_rule.proofs.Logs.{other_log, own_log}
+use Rattle.fabric_rule.proofs.Staying.{SaysTheSame, moved_alone, views_stay}
 use Rattle.fabric_rule.proofs.Sums.{each_gives}
-use Rattle.fabric_rule.proofs.ListFrames.{ledger_same, counted_stay, in_work_stay, lists_same, lists_there, posts_stay, records_stay, streams_stay, works_stay}
+use Rattle.fabric_rule.proofs.ListFrames.{ledger_same, in_work_stay, lists_same, works_stay}
 
 -- ---- what Pop leaves of a core
 
@@ -373,14 +372,6 @@ module _ {H : Type 0} (reply_of : List ℕ → Request → Reply) (shape : Shape
       (λ q f ne. let none : cond {A = ℕ} (queue == q) (f v.seat item) 0 ≡ 0 = ap (λ (b : Bool). cond {A = ℕ} b (f v.seat item) 0) (ne_eqb queue q (λ is_queue. ne (sym is_queue))) in omega (arith, none))
       holds.views.items
 
-  opens_same : (y : FabricView) → OpensNoted core y → OpensNoted core' y
-  opens_same y old =
-      let is : core'.opened ≡ core.opened = pop_opened core v.seat queue item place in
-      record {
-        out = subst (λ (o : Sides). open_noted Out y ≤ o.out) (sym is) old.out;
-        back = subst (λ (o : Sides). open_noted Back y ≤ o.back) (sym is) old.back;
-      }
-
   own_ledger : IsTrueLedger core holds.popped c
   own_ledger =
       let once : 1 ≤ lists_at c.seat v = omega (arith, ap (weigh (λ (d : Ledger). is_number c.seat d.seat)) main.only, is_number_same c.seat) in
@@ -428,46 +419,27 @@ module _ {H : Type 0} (reply_of : List ℕ → Request → Reply) (shape : Shape
             omega (arith, rest.items q f, old, now_popped);
       }
 
-  record SaysTheSame (old new : Item) : Type 0 where
-    tag : new.tag ≡ old.tag
-    run : new.run ≡ old.run
-    part : new.part ≡ old.part
-    last : new.stream ≡ old.stream
-
   same_item : (q i : ℕ) → SaysTheSame (item_of core q i) (item_of core' q i)
-  same_item q i =
-      elim (cases_eq q queue) [
-        | inl is ↦ elim (cases_eq i item) [
-          | inl this ↦ subst (λ (r : ℕ). SaysTheSame (item_of core r i) (item_of core' r i)) (sym is) (subst (λ (j : ℕ). SaysTheSame (item_of core queue j) (item_of core' queue j)) (sym this)
-              (subst (SaysTheSame (item_of core queue item)) (sym (item_here core core' queue item now changed)) (record { tag = refl; run = refl; part = refl; last = refl })))
-          | inr ne ↦ subst (SaysTheSame (item_of core q i)) (sym (moved q i (inr ne))) (record { tag = refl; run = refl; part = refl; last = refl })
-        ]
-        | inr ne ↦ subst (SaysTheSame (item_of core q i)) (sym (moved q i (inl ne))) (record { tag = refl; run = refl; part = refl; last = refl })
-      ]
+  same_item = moved_alone core core' queue item (WithSeat v.seat) changed
 
   views' : (popped' : ℕ → List ℕ) → (role_of core v.seat ≡ 0 → popped' v.seat ≡ item ∷ []) → ((k : ℕ) → k ≢ v.seat → popped' k ≡ holds.popped k) → ViewsShow shape word' popped' holds.armed holds.records core' (set s.views id u)
   views' popped' pops others =
-      let old = holds.views in
       let tails : (q : ℕ) → q < queues_of core.shape → (ring_in word q Free).tail ≤ (ring_in word' q Free).tail = λ q lt.
       let is : word' (Tail q FreeSide) ≡ word (Tail q FreeSide) = sets.others (Tail q FreeSide) (subst (λ (sh : Shape). q < queues_of sh) holds.shaped lt) (λ e. absurd (cc e)) in omega (arith, is) in
-      let untagged : (y : FabricView) → Each (StaysUntagged core core') y.kept = kept_untagged core core' (λ q i none. (same_item q i).tag ∙ none) in
-      record {
-        there = of_fabric core core' s.views id v u at same.shape refl refl old.there;
+      views_stay shape word word' holds.popped holds.armed popped' holds.armed holds.records core core'
+      (record { lists = same; owners = pop_owner core v.seat queue item place; opened = pop_opened core v.seat queue item place; items = same_item }) s.views id v u at
+      (record { shape = refl; number = refl; chunks = refl; arms = refl; records = refl; kept = refl; out = refl; back = refl })
+      tails
+      (record {
         items = items';
-        chunks = chunks_stay core core' s.views id v u at same.shape (pop_owner core v.seat queue item place) (λ f. refl) old.chunks;
-        opens = of_each (OpensNoted core) (OpensNoted core') s.views id u (record { out = (opens_same v (old.opens id v at)).out; back = (opens_same v (old.opens id v at)).back }) opens_same old.opens;
-        posts = posts_stay core core' s.views id v u at same refl old.posts;
-        streams = streams_stay core core' s.views id v u at same.shape (λ q i. (same_item q i).last) refl old.streams;
-        records_known = of_each (RecordsKnown core holds.records) (RecordsKnown core' holds.records) s.views id u (records_stay core core' holds.records v u same refl (old.records_known id v at)) (λ y. records_stay core core' holds.records y y same refl) old.records_known;
         lists = lists' popped' pops others;
-        lists_there = lists_there core core' s.views id v u at same.shape (λ k. sym (ap (weigh (λ (d : Ledger). is_number k d.seat)) main.only)) old.lists_there;
-        works = works_stay core core' holds.armed s.views id v u at same refl refl refl old.works;
-        counted = counted_stay s.views id v u at (λ k. omega (arith, ap (weigh (λ (d : Ledger). cond (d.seat == k) d.opened_works 0)) main.only)) old.counted;
-        idle = of_each (IsIdle shape) (IsIdle shape) s.views id u idle' (λ y is. is) old.idle;
-        in_work = in_work_stay core core' s.views id v u at same refl old.in_work;
-        kept = of_each (KeptAreWorn core (ring_in word)) (KeptAreWorn core' (ring_in word')) s.views id u
-            (kept_stay core core' (ring_in word) (ring_in word') v u same.shape tails (untagged v) refl (old.kept id v at)) (λ y. kept_stay core core' (ring_in word) (ring_in word') y y same.shape tails (untagged y) refl) old.kept;
-      }
+        numbers = λ k. sym (ap (weigh (λ (d : Ledger). is_number k d.seat)) main.only);
+        works = works_stay core core' holds.armed s.views id v u at same refl refl refl holds.views.works;
+        counted = λ k. omega (arith, ap (weigh (λ (d : Ledger). cond (d.seat == k) d.opened_works 0)) main.only);
+        idle = idle';
+        in_work = in_work_stay core core' s.views id v u at same refl holds.views.in_work;
+      })
+      holds.views
 
   -- ---- the machine, slots
 

@@ -6,11 +6,11 @@ use Rattle.unit_model.specs.Conditions.{holds_tagged, parts_sent}
 use Rattle.unit_model.specs.Core.{blank, item_of, no_seat, number_in, queue_of, role_of, seat_of, whereabouts_code}
 use Rattle.unit_model.specs.Holding.{entries_of}
 use Rattle.unit_model.specs.PartCounts.{carries, is_of_stream, no_part, of_number, received, sent_parts, times_received, times_under_way, times_withdrawn}
-use Rattle.unit_model.specs.PartOrder.{Each, IsOrdered, IsPopped, PartsInOrder, all_parts, course, line_parts}
+use Rattle.unit_model.specs.PartOrder.{Each, IsOrdered, IsPopped, IsUnpushed, PartsInOrder, all_parts, course, line_parts}
 use Rattle.unit_model.specs.Premises.{IsInHand}
 use Rattle.unit_model.specs.SoundStreams.{part_in}
 use Rattle.unit_model.specs.Soundness.{IsSound}
-use Rattle.unit_model.specs.StreamCounts.{by_all, by_seat, closed, posted}
+use Rattle.unit_model.specs.StreamCounts.{by_all, by_seat, closed, posted, taken}
 use Rattle.unit_model.specs.Weights.{weigh, below, is_number, one_if, times}
 use Rattle.unit_model.specs.declared.machine.Core.{Core}
 use Rattle.unit_model.specs.declared.machine.Entry.{Entry}
@@ -18,16 +18,16 @@ use Rattle.unit_model.specs.declared.machine.Item.{Item}
 use Rattle.unit_model.specs.declared.machine.Part.{Part}
 use Rattle.unit_model.proofs.Changes.{any_counts}
 use Rattle.unit_model.proofs.ItemChanges.{back_queue_in_all}
-use Rattle.unit_model.proofs.Members.{place_of}
+use Rattle.unit_model.proofs.Members.{counted_seat, member_counts, part_at_place, place_of}
 use Rattle.unit_model.proofs.PartFrames.{carries_this}
 use Rattle.unit_model.proofs.PartOrderBack.{hands_differ, not_in_line}
 use Rattle.unit_model.proofs.PartPoints.{no_part_twice, numbered, numbered_stream, sender_takes, sent_count, sent_somewhere}
 use Rattle.unit_model.proofs.SeatNotes.{is_there_of, seat_in_all}
 use Rattle.unit_model.proofs.MetSteps.{role_is_there}
 use Rattle.unit_model.proofs.StepFacts.{held_of}
-use Rattle.unit_model.proofs.StreamPoints.{armed_inside}
+use Rattle.unit_model.proofs.StreamPoints.{armed_inside, posted_some, state_is_posted}
 use Rattle.unit_model.proofs.Weights.{below_is, below_is_not, below_le, is_number_other, is_number_same, over_all_at, weigh-append, weigh_at, weigh_below, weigh_some}
-use Rattle.fabric_rule.specs.Consequences.{AloneLaw, ArmedBackLaw}
+use Rattle.fabric_rule.specs.Consequences.{AloneLaw, ArmedBackLaw, ArmedOnceLaw, ClosedGoneLaw}
 
 -- ---- lists
 
@@ -220,3 +220,97 @@ alone popped armed core sound order seat engine stream worker some_stream nothin
     is_true : (b : Bool) → 0 < one_if b → b ≡ true
     is_true true pos = refl
     is_true false pos = absurd (omega (arith, pos))
+
+-- ---- one armed part
+
+-- two armed parts of a stream would both be its final one
+pub armed_once : ArmedOnceLaw
+armed_once popped armed core sound order stream =
+    elim (cases_lt 0 (by_all taken core stream)) [
+      | inr none ↦ omega (arith, ap (length {A = ℕ}) (order.untaken stream (omega (arith, none))))
+      | inl some_took ↦
+          let was_posted : 1 ≤ by_all posted core stream = omega (arith, some_took, state_is_posted core sound.streams stream) in
+          let poster = counted_seat posted core stream was_posted in
+          few (poster.0) (posted_some core sound.streams stream was_posted) (armed stream) refl (order.arms (poster.0) stream (member_counts stream (seat_of core (poster.0)).posted poster.1))
+    ]
+  where
+    few : (engine : ℕ) → stream ≢ 0 → (xs : List ℕ) → armed stream ≡ xs → Each (IsUnpushed core engine stream) xs → length xs ≤ 1
+    few engine nonzero [] is each = omega arith
+    few engine nonzero (x ∷ []) is each = omega arith
+    few engine nonzero (x ∷ (y ∷ rest)) is (one, (other, more)) =
+        let tagged : (item_of core (1 + engine) x).tag ≢ 0 = λ none. nonzero (sym one.tag ∙ none) in
+        let also : (item_of core (1 + engine) y).tag ≢ 0 = λ none. nonzero (sym other.tag ∙ none) in
+        let same : x ≡ y = no_part_twice core sound.parts engine x y tagged (one.tag ∙ sym other.tag)
+        (let last_x = sound.parts.held_is_final one.seat engine x one.role one.hand tagged in
+        let last_y = sound.parts.held_is_final other.seat engine y other.role other.hand also in
+        omega (arith, last_x, last_y, ap (parts_sent core) one.tag, ap (parts_sent core) other.tag)) in
+        absurd (omega (
+          arith,
+          one_place popped armed core sound order engine x tagged,
+          ap (times x) (ap armed one.tag ∙ is),
+          is_number_same x,
+          ap (is_number x) same,
+        ))
+
+-- ---- a closed stream
+
+none_in_map : {X : Type 0} (f : Part → ℕ) (g : X → Part) (xs : List X) → ((x : X) → f (g x) ≡ 0) → weigh f (map g xs) ≡ 0
+none_in_map f g [] none = refl
+none_in_map f g (x ∷ xs) none = omega (arith, none x, none_in_map f g xs none)
+
+some_long : {X : Type 0} (f : X → ℕ) (xs : List X) → 1 ≤ weigh f xs → 1 ≤ length xs
+some_long f [] has = absurd (omega (arith, has))
+some_long f (x ∷ xs) has = omega arith
+
+-- the final part of a closed stream is neither on its way nor received, so it is the one that was taken back
+pub closed_gone : ClosedGoneLaw
+closed_gone core sound engine worker stream popped armed posts closes long o =
+    let sent_all : List Part = sent_parts core worker stream in
+    let m : ℕ = length sent_all - 1 in
+    let inside : m < length sent_all = omega (arith, long) in
+    let final : Part = get_or sent_all m no_part in
+    let found = part_at_place stream (seat_of core worker).sent m inside in
+    let many : parts_sent core stream ≡ length sent_all =
+    subst (λ (n : ℕ). parts_sent core n ≡ length (sent_parts core worker n)) found.1 (sent_count core sound.streams sound.parts worker final found.0) in
+    let nonzero : stream ≢ 0 = posted_some core sound.streams stream (omega (arith, posts, seat_in_all posted core engine stream refl)) in
+    let f : Part → ℕ = of_number stream m in
+    let withdrawn : times_withdrawn core stream m ≡ by_all closed core stream = ap (λ (b : Bool). if b then by_all closed core stream else 0) (eq-eqb (m + 1) (parts_sent core stream) (omega (arith, many, inside))) in
+    let state = sound.parts.one_state stream m nonzero in
+    let closed_all : 1 ≤ by_all closed core stream = omega (arith, closes, seat_in_all closed core worker stream refl) in
+    let off_way : times_under_way core stream m ≡ 0 = omega (arith, state, withdrawn, closed_all, small (nat_lt m (parts_sent core stream))) in
+    let unreceived : times_received core stream m ≡ 0 = omega (arith, state, withdrawn, closed_all, small (nat_lt m (parts_sent core stream))) in
+    let in_item : (x : ℕ) → f (part_in core (1 + engine) x) ≡ 0 = λ x. elim (cases_lt 0 (f (part_in core (1 + engine) x))) [
+      | inr none ↦ omega (arith, none)
+      | inl has ↦
+          let tag : (item_of core (1 + engine) x).tag ≡ stream = numbered_stream stream m (part_in core (1 + engine) x) (omega (arith, has)) in
+          let is : number_in (item_of core (1 + engine) x).part ≡ m = numbered_number stream m (part_in core (1 + engine) x) (omega (arith, has)) in
+          absurd (omega (
+            arith,
+            off_way,
+            back_queue_in_all (carries stream m) core engine,
+            weigh_at (carries stream m) (queue_of core (1 + engine)).items x blank (armed_inside core (1 + engine) x (λ none. nonzero (sym tag ∙ none))),
+            carries_this stream m (item_of core (1 + engine) x) tag is,
+          ))
+    ] in
+    let none_received : weigh f (seat_of core engine).received ≡ 0 = omega (arith, unreceived, over_all_at f received core.seats engine no_seat (is_there_of (is_number stream) posted core engine refl posts)) in
+    let got : List Part = (seat_of core engine).received in
+    let on_line : List Part = line_parts core (1 + engine) in
+    let of_popped : List Part = map (part_in core (1 + engine)) popped in
+    let of_armed : List Part = map (part_in core (1 + engine)) armed in
+    let before : List Part = course core engine stream popped armed in
+    let has_final : 1 ≤ weigh f sent_all = omega (arith, weigh_at f sent_all m no_part inside, numbered stream m final found.1 (sound.parts.in_order worker stream m inside)) in
+    let behind : 1 ≤ weigh f o.gone = omega (
+      arith,
+      has_final,
+      ap (weigh f) o.whole,
+      weigh-append f before o.gone,
+      filtered stream f (off_stream stream m) (all_parts core engine popped armed),
+      weigh-append f got (of_popped ++ (on_line ++ of_armed)),
+      weigh-append f of_popped (on_line ++ of_armed),
+      weigh-append f on_line of_armed,
+      none_received,
+      none_in_map f (part_in core (1 + engine)) popped in_item,
+      none_in_map f (λ (e : Entry). part_in core (1 + engine) e.item) (queue_of core (1 + engine)).line (λ e. in_item e.item),
+      none_in_map f (part_in core (1 + engine)) armed in_item,
+    ) in
+    omega (arith, some_long f o.gone behind, o.few)

@@ -1,5 +1,5 @@
 -- What follows of the rule.
-use Rattle.std.specs.Prelude.{ℕ, ◌+◌, ◌≡◌, ◌≢◌, ◌≤◌, ◌<◌, false, List, [], Option}
+use Rattle.std.specs.Prelude.{ℕ, ◌+◌, ◌≡◌, ◌≢◌, ◌≤◌, ◌<◌, false, List, [], length, Option}
 use Rattle.atomic_table.specs.Table.{State}
 use Rattle.app_queue.specs.declared.side.Side.{Side}
 use Rattle.nncq_ring.specs.Words.{Words, line_of}
@@ -7,8 +7,10 @@ use Rattle.request_context.specs.declared.piece.Parcel.{Parcel}
 use Rattle.unit_model.specs.Conditions.{holds_tagged}
 use Rattle.unit_model.specs.Core.{item_of, queue_of, role_of}
 use Rattle.unit_model.specs.Holding.{entries_of, items_of}
-use Rattle.unit_model.specs.PartOrder.{PartsInOrder}
+use Rattle.unit_model.specs.PartCounts.{sent_parts}
+use Rattle.unit_model.specs.PartOrder.{IsOrdered, PartsInOrder}
 use Rattle.unit_model.specs.Soundness.{IsSound}
+use Rattle.unit_model.specs.StreamCounts.{by_seat, closed, posted}
 use Rattle.unit_model.specs.Weights.{weigh, is_number, times}
 use Rattle.unit_model.specs.declared.machine.Core.{Core}
 use Rattle.unit_model.specs.declared.shape.Shape.{Shape}
@@ -60,3 +62,15 @@ abbrev pub AloneLaw : Type 0
 AloneLaw = (popped armed : ℕ → List ℕ) (core : Core) → IsSound core → PartsInOrder popped armed core
     → (seat engine stream : ℕ) → role_of core seat ≡ 1 → stream ≢ 0 → armed stream ≡ []
     → holds_tagged core seat (1 + engine) stream ≡ false
+
+-- And of one stream at most one part is armed and not pushed.
+abbrev pub ArmedOnceLaw : Type 0
+ArmedOnceLaw = (popped armed : ℕ → List ℕ) (core : Core) → IsSound core → PartsInOrder popped armed core
+    → (stream : ℕ) → length (armed stream) ≤ 1
+
+-- Of a closed stream of which a part was sent exactly one part is neither received nor on its way: it was taken back.
+abbrev pub ClosedGoneLaw : Type 0
+ClosedGoneLaw = (core : Core) → IsSound core → (engine worker stream : ℕ) (popped armed : List ℕ)
+    → 1 ≤ by_seat posted core engine stream → 1 ≤ by_seat closed core worker stream
+    → 1 ≤ length (sent_parts core worker stream)
+    → (o : IsOrdered core engine worker stream popped armed) → length o.gone ≡ 1

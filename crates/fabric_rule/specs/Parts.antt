@@ -13,7 +13,8 @@ use Rattle.unit_model.specs.Limits.{segment_chunks}
 use Rattle.unit_model.specs.PartCounts.{of_stream}
 use Rattle.unit_model.specs.PartOrder.{Each}
 use Rattle.unit_model.specs.Runs.{HasNoRun, chunks_for}
-use Rattle.unit_model.specs.StreamCounts.{by_all, by_seat, drawn, posted, taken}
+use Rattle.unit_model.specs.Shapes.{role_in}
+use Rattle.unit_model.specs.StreamCounts.{by_all, posted}
 use Rattle.unit_model.specs.Weights.{weigh, below, times}
 use Rattle.unit_model.specs.declared.machine.Core.{Core}
 use Rattle.unit_model.specs.declared.machine.Owner.{Owner}
@@ -111,22 +112,28 @@ KeptAreWorn core ring v = Each (IsWornOut core ring) v.kept
 
 -- ---- the lists of a seat number
 
--- how many items has a queue that a seat of this number fills
-abbrev pub filled_items : Core → ℕ → ℕ
-filled_items core seat = cond (role_of core seat == 0) core.shape.items core.shape.back_items
+-- the seat that has these lists drew or took the stream
+abbrev pub IsOwnStream : SeatLists → ℕ → Type 0
+IsOwnStream lists stream = 1 ≤ times stream lists.drawn + times stream lists.taken
 
--- the seat drew or took the stream
 abbrev pub IsOwn : Core → ℕ → ℕ → Type 0
-IsOwn core seat stream = 1 ≤ by_seat drawn core seat stream + by_seat taken core seat stream
+IsOwn core seat stream = IsOwnStream (seat_of core seat) stream
 
--- why a seat was refused
+-- how many items has a queue that a seat of this number fills
+abbrev pub filled_in : Shape → ℕ → ℕ
+filled_in shape seat = cond (role_in shape seat == 0) shape.items shape.back_items
+
+-- why a seat of this number, with these lists, was refused
+abbrev pub IsCauseOf : Shape → ℕ → SeatLists → ℕ → Cause → Type 0
+IsCauseOf shape seat lists stream (NoChunks size seen) =
+    HasNoRun seen (chunks_for size) × IsOwnStream lists stream
+IsCauseOf shape seat lists stream (NoItem place entry) =
+    (entry / filled_in shape seat + 1 ≡ place / filled_in shape seat) × IsOwnStream lists stream
+IsCauseOf shape seat lists stream (Worn place) =
+    (2 ^ 62 ≤ place) × ((stream ≡ 0) ⊎ IsOwnStream lists stream)
+
 abbrev pub IsCause : Core → ℕ → ℕ → Cause → Type 0
-IsCause core seat stream (NoChunks size seen) =
-    HasNoRun seen (chunks_for size) × IsOwn core seat stream
-IsCause core seat stream (NoItem place entry) =
-    (entry / filled_items core seat + 1 ≡ place / filled_items core seat) × IsOwn core seat stream
-IsCause core seat stream (Worn place) =
-    (2 ^ 62 ≤ place) × ((stream ≡ 0) ⊎ IsOwn core seat stream)
+IsCause core seat stream cause = IsCauseOf core.shape seat (seat_of core seat) stream cause
 
 abbrev pub IsRefused : Core → ℕ → Refusal → Type 0
 IsRefused core seat refusal = IsCause core seat refusal.stream refusal.cause

@@ -45,7 +45,7 @@ use Rattle.fabric_words.specs.declared.place.Side.TheVariants.{FreeSide, LineSid
 use Rattle.fabric_rule.specs.Contents.{CarriesSlots, IsRecordOf, IsRequest}
 use Rattle.fabric_rule.specs.Passing.{first_of}
 use Rattle.fabric_rule.specs.Rule.{FabricHolds}
-use Rattle.fabric_rule.specs.Views.{emptied_by, got_at, held_at, log_at, logged, part_said, ring_in, run_said, tag_said, word_side}
+use Rattle.fabric_rule.specs.Views.{emptied_by, got_at, held_at, log_at, logged, part_said, posts_of, ring_in, run_said, tag_said, word_side}
 use Rattle.fabric_rule.specs.declared.event.FabricEvent.TheVariants.{AtItem, AtRing}
 use Rattle.fabric_rule.specs.declared.view.Ledger.{Ledger}
 use Rattle.fabric_rule.specs.declared.view.FabricView.{FabricView}
@@ -167,13 +167,13 @@ pub record MayPut (shape : Shape) (words : List ℕ) (v : FabricView) (queue : �
   pub vacant : word_in shape words (slot_of shape queue side place) / items_of shape queue + 1 ≡ place / items_of shape queue
   pub low : place < 2 ^ 62
 
--- Push of queue 0 by an engine: the item is armed, and goes into the line.
+-- Push of queue 0 by the engine that posted the item: it is armed, and goes into the line.
 abbrev pub PushLineLaw : (H : Type 0) → Type 0
 PushLineLaw H = (reply_of : List ℕ → Request → Reply) (shape : Shape) (s : State (Option (Parcel H)) FabricView)
     (holds : FabricHolds reply_of shape s) (id : ℕ) (v : FabricView) (carried : List (ℕ × Option (Parcel H)))
     → get_elem? s.views id ≡ some v → v.works ≢ [] → role_in shape v.seat ≡ 0
     → (item place stream : ℕ) → HasItem shape 0 item → Holds (held_at 0) item v
-    → tag_said 0 v item stream → stream ≢ 0
+    → tag_said 0 v item stream → stream ≢ 0 → 1 ≤ posts_of stream item v.arms
     → MayPut shape s.words v 0 Line place
     → IsMachineStep reply_of shape s holds (Push v.seat 0 item place)
     (stepped s (offset_of shape (slot_of shape 0 Line place)) (entry_of (items_of shape 0) place item) id carried (with_put 0 Line item place v) keeps)

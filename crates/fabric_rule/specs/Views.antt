@@ -120,11 +120,6 @@ run_said queue v item x = last_run item (item_log queue v.log) ≡ Some x
 abbrev pub part_said : ℕ → FabricView → ℕ → ℕ → Type 0
 part_said queue v item x = last_part item (item_log queue v.log) ≡ Some x
 
--- but for a line item that a worker holds, whose poster may take its tag to 0
-abbrev pub tag_kept : Shape → ℕ → FabricView → ℕ → ℕ → Type 0
-tag_kept shape queue v item x =
-    tag_said queue v item x × ((queue ≢ 0) ⊎ (role_in shape v.seat ≡ 0))
-
 -- ---- items in hand
 
 -- what the items of a queue weigh that the view has, but for those that it keeps for good
@@ -181,6 +176,13 @@ posts_at stream v = weigh (λ (a : Arm). is_number stream a.stream) (arms_at 0 v
 abbrev pub posts_of : ℕ → ℕ → List ArmNote → ℕ
 posts_of stream item arms =
     weigh (λ (a : Arm). one_if (a.stream == stream && a.item == item)) (arms_among 0 arms)
+
+-- What the seat knows of an item's tag is so, but for a line item that isn't with its poster: who posted it may take its tag to 0. The
+-- poster is the view that has the arm.
+abbrev pub tag_kept : Shape → ℕ → FabricView → ℕ → ℕ → Type 0
+tag_kept shape queue v item x =
+    tag_said queue v item x
+    × ((queue ≢ 0) ⊎ ((role_in shape v.seat ≡ 0) × (1 ≤ posts_of x item v.arms)))
 
 -- the later one of two arms
 abbrev pub later_arm : ArmNote → Option ArmNote → Option ArmNote

@@ -1,5 +1,5 @@
 //! The table of a fabric, and its atomic steps.
-ghost use Rattle.std.specs.Prelude.{ℕ, ◌≡◌, ◌≢◌, ◌*◌, [], ◌∷◌, ◌≤◌, ◌<◌, ◌==◌, ◌/◌, ◌%◌, ◌^◌};
+ghost use Rattle.std.specs.Prelude.{ℕ, ◌≡◌, ◌≢◌, ◌*◌, [], ◌∷◌, ◌≤◌, ◌<◌, ◌==◌, ◌/◌, ◌%◌, ◌^◌, bit_and, bit_or};
 ghost use Rattle.fabric_words.specs.Offsets.{offset_of, width_of};
 ghost use Rattle.fabric_words.specs.Places.{queues_of, segments_of};
 ghost use Rattle.unit_model.specs.Limits.{segment_chunks};
@@ -54,7 +54,7 @@ impl<S, J: Tells<S>> Play<S, FabricView> for Telling<J> {
 pub struct HeldRequest {
     pub item: u32,
     pub run: u64,
-    pub poster: u32,
+    pub poster: u64,
 }
 
 /// An item that was got from the free ring at a place, with the run that its word says.
@@ -102,7 +102,7 @@ impl<H: Handlers> FabricTable<H> {
     ghost use Rattle.fabric_rule.specs.declared.view.Work.TheVariants.{Drawn, Holding};
 
     // The word as it was, which has become the new one where it was the old one.
-    fn exchange_word<J: Tells<Option<Parcel<H>>>, W: Drop>(
+    pub(crate) fn exchange_word<J: Tells<Option<Parcel<H>>>, W: Drop>(
         &self,
         seat: &mut Seat<Option<Parcel<H>>, FabricView>,
         word: usize,
@@ -144,7 +144,7 @@ impl<H: Handlers> FabricTable<H> {
     }
 
     // The word has become the new one.
-    fn store_word<J: Tells<Option<Parcel<H>>>, W: Drop>(
+    pub(crate) fn store_word<J: Tells<Option<Parcel<H>>>, W: Drop>(
         &self,
         seat: &mut Seat<Option<Parcel<H>>, FabricView>,
         word: usize,
@@ -162,6 +162,48 @@ impl<H: Handlers> FabricTable<H> {
         let table = &self.table;
         let shared = &table.shared;
         shared.store::<Telling<J>>(seat, word, new);
+    }
+
+    // The word as it was, which has kept the bits of the mask.
+    pub(crate) fn and_word<J: Tells<Option<Parcel<H>>>, W: Drop>(
+        &self,
+        seat: &mut Seat<Option<Parcel<H>>, FabricView>,
+        word: usize,
+        mask: u64,
+        _about: W,
+    ) -> u64
+        requires own { seat.old.table_id ≡ self.now.table.shared.table_id }
+        requires there { word < self.now.table.shared.table_id.words }
+        requires allowed { Allows (FabricHolds H.reply_of self.now.table.shared.key)
+            self.now.table.shared.table_id.slots seat.old.id seat.old.me
+            word (λ n. bit_and n mask) (λ n m. J.tells n m) }
+        ensures own { (seat.new.table_id ≡ seat.old.table_id) × (seat.new.id ≡ seat.old.id) }
+        ensures told { J.tells result seat.new.me }
+    {
+        let table = &self.table;
+        let shared = &table.shared;
+        shared.fetch_and::<Telling<J>>(seat, word, mask)
+    }
+
+    // The word as it was, which has got the bits of the mask.
+    pub(crate) fn or_word<J: Tells<Option<Parcel<H>>>, W: Drop>(
+        &self,
+        seat: &mut Seat<Option<Parcel<H>>, FabricView>,
+        word: usize,
+        mask: u64,
+        _about: W,
+    ) -> u64
+        requires own { seat.old.table_id ≡ self.now.table.shared.table_id }
+        requires there { word < self.now.table.shared.table_id.words }
+        requires allowed { Allows (FabricHolds H.reply_of self.now.table.shared.key)
+            self.now.table.shared.table_id.slots seat.old.id seat.old.me
+            word (λ n. bit_or n mask) (λ n m. J.tells n m) }
+        ensures own { (seat.new.table_id ≡ seat.old.table_id) × (seat.new.id ≡ seat.old.id) }
+        ensures told { J.tells result seat.new.me }
+    {
+        let table = &self.table;
+        let shared = &table.shared;
+        shared.fetch_or::<Telling<J>>(seat, word, mask)
     }
 
     /// Takes the first item of the line of the queue that the seat empties, where its head is still `place`: one exchange of `word`,

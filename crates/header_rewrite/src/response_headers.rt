@@ -1,5 +1,6 @@
 //! Changed header fields.
 ghost use Rattle.std.specs.Prelude.{◌≡◌, IfOk, OnOk};
+ghost use Rattle.std.specs.Option.{unwrap_or};
 ghost use Rattle.header_rewrite.specs.ResponseHeaders.{all_changed, changed, changes_of_step, fielded_of, fields_of, is_named};
 
 use conf_validate::Conf;
@@ -27,6 +28,25 @@ pub fn fielded(
         fields: changed_fields(alloc, conf, step, request, &reply.fields)?,
         body: Bytes::copy_of(alloc, reply.body.as_slice())?,
     })
+}
+
+/// The reply as `fielded` tells it, where the step has changes. None where it has none: the reply stays, and isn't copied.
+///
+/// Fails for want of memory alone.
+pub fn fielded_if_changed(
+    alloc: Global,
+    conf: &Conf,
+    step: Option<usize>,
+    request: &Request,
+    reply: &Reply,
+) -> Result<Option<Reply>, AllocError>
+    ensures { IfOk result (λ new. unwrap_or new reply.now
+        ≡ fielded_of conf.now step request.now reply.now) }
+{
+    if changes_of_step(conf, step).is_empty() {
+        return Ok(None);
+    }
+    Ok(Some(fielded(alloc, conf, step, request, reply)?))
 }
 
 /// The fields of a reply as this step changes them, as `fielded` tells; the content isn't copied.

@@ -6,6 +6,7 @@
 //! is ruled by the same parts.
 #![tactic(auto)]
 
+mod any_ring;
 mod closing;
 mod laws;
 mod opening;
@@ -15,12 +16,12 @@ mod ring_steps;
 mod ring_turns;
 mod rule_laws;
 mod seat;
-mod single;
-mod steps;
+mod table_steps;
 mod turns;
 mod view;
 mod waiting;
 
+pub use any_ring::RingSteps;
 pub use closing::ClosedRing;
 pub use laws::{
     a_look_is_noted, a_ring_starts_empty, a_ring_starts_full, empty_is_seen, full_is_seen,
@@ -34,7 +35,6 @@ pub use rule_laws::{
     what_was_put_is_taken_or_stands,
 };
 pub use seat::RingSeat;
-pub use single::RingSteps;
 pub use turns::{PopTurn, PushTurn, pop_turn, push_turn};
 pub use view::{RingEvent, RingView};
 pub use waiting::{PopEnd, PushEnd, pop, push};

@@ -1,5 +1,6 @@
 //! The words of a ring that was just made.
 ghost use Rattle.std.specs.Prelude.{◌≡◌, ◌≤◌, ◌<◌, ◌+◌, ◌*◌, ◌/◌, ◌%◌, ◌^◌, ℕ, length, IfOk};
+ghost use Rattle.unit_model.specs.Limits.{most_items};
 ghost use Rattle.nncq_ring.specs.RingWords.{Fresh};
 ghost use Rattle.nncq_ring.specs.Words.{entry_of};
 
@@ -53,7 +54,7 @@ pub fn full_entry(size: u64, start: u64, slot: u64) -> u64
 
 /// The words of an empty ring.
 pub fn first_words(alloc: Global, size: u32, start: u64) -> Result<Vec<u64>, AllocError>
-    requires { (1 ≤ size) × (size ≤ 16384) × (size ≤ start) }
+    requires { (1 ≤ size) × (size ≤ most_items) × (size ≤ start) }
     ensures { IfOk result (λ words. (length words.items ≡ size + 48)
         × Fresh size start 16 words.items) }
 {

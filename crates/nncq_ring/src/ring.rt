@@ -1,5 +1,6 @@
 //! A ring, and how it and its seats are made and ended.
 ghost use Rattle.std.specs.Prelude.{◌≡◌, ◌≤◌, ◌+◌, ◌<◌, ◌^◌, [], ℕ, IfOk};
+ghost use Rattle.unit_model.specs.Limits.{most_items};
 
 use crate::opening::first_words;
 use crate::plays::{Aim, Apart, Handing, RingRule, Together};
@@ -27,7 +28,7 @@ impl Ring {
     ///
     /// Fails for want of memory alone.
     pub fn open(alloc: Global, size: u32, start: u64) -> Result<(Ring, RingSeat), AllocError>
-        requires { (1 ≤ size) × (size ≤ 16384) × (size ≤ start) × (start < 2 ^ 62) }
+        requires { (1 ≤ size) × (size ≤ most_items) × (size ≤ start) × (start < 2 ^ 62) }
         ensures { IfOk result (λ r. (r.0.size ≡ size) × (start_of r.0 ≡ start) × BelongsTo r.1 r.0
             × (knows r.1 ≡ whole size)) }
     {

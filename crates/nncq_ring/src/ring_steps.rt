@@ -1,7 +1,7 @@
 //! A ring with a table of its own has the steps of a ring.
+use crate::any_ring::RingSteps;
 use crate::ring::Ring;
 use crate::seat::RingSeat;
-use crate::single::RingSteps;
 use std::marker::Brand;
 
 impl RingSteps for Ring {

@@ -2,7 +2,7 @@
 ghost use Rattle.std.specs.Prelude.{◌≡◌, ◌≤◌, ◌<◌, ◌+◌, ◌^◌, ◌/◌, ◌%◌, ◌↔◌, ℕ};
 ghost use Rattle.nncq_ring.specs.Turns.{IsDone, IsEmpty, IsGot, IsPopLost, IsPushLost, IsWorn, Tells};
 
-use crate::single::RingSteps;
+use crate::any_ring::RingSteps;
 
 // From this place on nothing is pushed, so that places never wrap.
 const WORN: u64 = 4611686018427387904;

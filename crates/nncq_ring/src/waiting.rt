@@ -2,7 +2,7 @@
 ghost use Rattle.std.specs.Prelude.{◌≡◌, ℕ};
 ghost use Rattle.nncq_ring.specs.Turns.{AfterLooks, IsDone, IsEmpty, IsGot, IsWorn, Tells};
 
-use crate::single::RingSteps;
+use crate::any_ring::RingSteps;
 use crate::turns::{PopTurn, PushTurn, pop_turn, push_turn};
 use std::sync::Wait;
 

@@ -1,5 +1,5 @@
 -- Behind a trace no stream is left open.
-use Rattle.std.proofs.Common.{◌≡◌, ◌≢◌, ℕ, ◌+◌, ◌==◌, ◌&&◌, ◌||◌, inl, inr, ◌⊎◌, Bool, true, false, not, List, [], ◌∷◌, length, refl, sym, ap, ◌∙◌, arith}
+use Rattle.std.proofs.Common.{◌≡◌, ℕ, ◌==◌, ◌&&◌, ◌||◌, inl, inr, Bool, true, false, not, List, [], ◌∷◌, length, refl, ap, ◌∙◌, arith}
 use Rattle.std.proofs.lemmas.Bool.{cases_Bool}
 use Rattle.std.specs.List.{list_any}
 use Rattle.unit_model.proofs.RoleLists.{seats_at_first, seats_by_role_stay}
@@ -9,7 +9,6 @@ use Rattle.unit_model.specs.Core.{seat_of, role_of}
 use Rattle.unit_model.specs.Effects.{after_step}
 use Rattle.unit_model.specs.Opening.{opened_core}
 use Rattle.unit_model.specs.Running.{AllEnabled, after_steps}
-use Rattle.unit_model.specs.StreamAccount.{is_left_open}
 use Rattle.unit_model.specs.declared.machine.Core.{Core}
 use Rattle.unit_model.specs.declared.machine.Part.{Part}
 use Rattle.unit_model.specs.declared.machine.Seat.{Seat as SeatLists}

@@ -1,8 +1,15 @@
+pub mod Carried
+pub mod Keeping
+pub mod Laying
 pub mod LeftOpen
 pub mod Lists
+pub mod Making
+pub mod Needed
 pub mod Passing
+pub mod Placed
 pub mod Runs
 pub mod Streams
+pub mod Tails
 pub mod Traces
 pub mod UnderWay
 pub mod Visits

@@ -1,24 +1,21 @@
 -- A message that is sent and taken, or cancelled, on a machine at rest.
-use Rattle.std.proofs.Common.{◌≡◌, ◌≢◌, ℕ, zero, suc, ◌+◌, ◌-◌, ◌*◌, ◌%◌, ◌==◌, ◌≤◌, ◌<◌, ◌⊎◌, inl, inr, List, [], ◌∷◌, ◌++◌, length, map, get_or, refl, sym, ap, ap₂, subst, ◌∙◌, arith}
+use Rattle.std.proofs.Common.{◌≡◌, ◌≢◌, ℕ, zero, suc, ◌+◌, ◌-◌, ◌%◌, ◌==◌, ◌≤◌, ◌<◌, inl, inr, List, [], ◌∷◌, ◌++◌, length, map, get_or, refl, sym, ap, ap₂, subst, ◌∙◌, arith}
 use Rattle.std.proofs.lemmas.Bool.{cases_Bool, cases_eq, cases_lt}
 use Rattle.std.proofs.Math.Nat.{add-mod_right}
 use Rattle.std.proofs.lemmas.Nat.{mod_below}
 use Rattle.std.specs.List.{range_with_len}
-use Rattle.unit_model.proofs.Introductions.{settling_role}
-use Rattle.unit_model.specs.Core.{blank, queue_of, item_of, owner_of, role_of, chunk_number}
+use Rattle.unit_model.specs.Core.{blank, item_of, owner_of, role_of, chunk_number}
 use Rattle.unit_model.specs.Effects.{after_step, noted, armed_note, settled_note}
-use Rattle.unit_model.specs.Holding.{FitsQueue, IsInRun, first_segment, items_of}
+use Rattle.unit_model.specs.Holding.{FitsQueue, first_segment, items_of}
 use Rattle.unit_model.specs.Limits.{place_limit, segment_chunks}
 use Rattle.unit_model.specs.Lists.{change_at}
-use Rattle.unit_model.specs.Premises.{Fills, Empties, Worker, Engine, IsInHand, MayArm, MaySettle, Cancels, Takes, Receives}
-use Rattle.unit_model.specs.Running.{Enabled}
-use Rattle.unit_model.specs.Runs.{chunks_for, chunks_of}
+use Rattle.unit_model.specs.Premises.{Fills, Empties, Worker, Engine, IsInHand, MayArm, MaySettle, Takes, Receives}
+use Rattle.unit_model.specs.Runs.{chunks_for}
 use Rattle.unit_model.specs.Shapes.{role_in}
 use Rattle.unit_model.specs.Soundness.{IsSound}
 use Rattle.unit_model.specs.declared.machine.Core.{Core}
 use Rattle.unit_model.specs.declared.machine.Entry.{Entry}
 use Rattle.unit_model.specs.declared.machine.Item.{Item}
-use Rattle.unit_model.specs.declared.machine.Owner.{Owner}
 use Rattle.unit_model.specs.declared.machine.Owner.TheVariants.{Free, Seat, Message as MessageOf}
 use Rattle.unit_model.specs.declared.machine.Queue.{Queue}
 use Rattle.unit_model.specs.declared.machine.Seat.{Seat as SeatLists}
@@ -28,8 +25,8 @@ use Rattle.unit_model.specs.declared.machine.Whereabouts.{Whereabouts}
 use Rattle.unit_model.specs.declared.machine.Whereabouts.TheVariants.{InFreeList, InLine, WithSeat}
 use Rattle.unit_model.specs.declared.runs.Run.{Run}
 use Rattle.unit_model.specs.declared.shape.Shape.{Shape}
-use Rattle.plain_fabric.proofs.Runs.{Leads, done, then, joined, so}
-use Rattle.plain_fabric.proofs.UnderWay.{Lane, HasLane, HasOwner, Under, got, run_set, part_set, armed, pushed, popped, settled, given, claimed, released}
+use Rattle.plain_fabric.proofs.Runs.{Leads, done, then, joined}
+use Rattle.plain_fabric.proofs.UnderWay.{Lane, Under, got, run_set, part_set, armed, pushed, popped, settled, given, claimed, released}
 use Rattle.plain_fabric.specs.AtRest.{HasPassed, free_list, turn_of}
 use Rattle.plain_fabric.specs.declared.message.Message.{Message}
 use Rattle.plain_fabric.specs.Schedule.{item_of_message, place_of_message, place_behind, run_of_message, claims, releases, sending, taking, cancelling}

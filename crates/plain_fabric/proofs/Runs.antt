@@ -1,5 +1,5 @@
 -- Runs of steps of which each is enabled in its turn, with what holds behind them.
-use Rattle.std.proofs.Common.{◌≡◌, List, [], ◌∷◌, ◌++◌}
+use Rattle.std.proofs.Common.{List, [], ◌∷◌, ◌++◌}
 use Rattle.unit_model.specs.Effects.{after_step}
 use Rattle.unit_model.specs.Running.{AllEnabled, Enabled, after_steps}
 use Rattle.unit_model.specs.declared.machine.Core.{Core}

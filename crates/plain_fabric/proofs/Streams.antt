@@ -1,6 +1,6 @@
 -- The lists of the engine and of the worker while a stream is under way: what they say of it, and of all others.
-use Rattle.std.proofs.Common.{◌≡◌, ◌≢◌, ℕ, ◌+◌, ◌*◌, ◌/◌, ◌%◌, ◌==◌, ◌&&◌, ◌||◌, ◌≤◌, ◌⊎◌, inl, inr, Bool, true, false, List, [], ◌∷◌, ◌++◌, length, get_or, refl, sym, ap, ◌∙◌, arith}
-use Rattle.std.proofs.lemmas.Bool.{cases_Bool, cases_eq, eq-eqb, ne_eqb, eqb-true, and_parts}
+use Rattle.std.proofs.Common.{◌≡◌, ◌≢◌, ℕ, ◌+◌, ◌*◌, ◌%◌, ◌==◌, ◌&&◌, ◌||◌, ◌≤◌, ◌⊎◌, inl, inr, Bool, true, false, List, [], ◌∷◌, ◌++◌, refl, sym, ap, ◌∙◌, arith}
+use Rattle.std.proofs.lemmas.Bool.{cases_Bool, cases_eq, eq-eqb, ne_eqb, eqb-true}
 use Rattle.std.proofs.lemmas.List.Folds.{list_any-append}
 use Rattle.std.specs.List.{list_any}
 use Rattle.port_message.specs.Words.{part_word_of}
@@ -8,12 +8,12 @@ use Rattle.unit_model.proofs.Changes.{any_counts}
 use Rattle.unit_model.proofs.SeatNotes.{has_counts, seat_in_all, all_less}
 use Rattle.unit_model.proofs.StreamPoints.{state_is_posted}
 use Rattle.unit_model.proofs.Weights.{weigh_le, weigh_push}
-use Rattle.unit_model.specs.Conditions.{has_stream, part_of}
+use Rattle.unit_model.specs.Conditions.{has_stream}
 use Rattle.unit_model.specs.Core.{number_in, is_last_in, seat_of}
 use Rattle.unit_model.specs.Effects.{noted}
-use Rattle.unit_model.specs.PartCounts.{of_stream, parts_by_seat, sent}
+use Rattle.unit_model.specs.PartCounts.{of_stream}
 use Rattle.unit_model.specs.Soundness.{IsSound}
-use Rattle.unit_model.specs.StreamCounts.{by_all, by_seat, drawn, posted, taken, closed}
+use Rattle.unit_model.specs.StreamCounts.{by_all, by_seat, drawn, posted, taken}
 use Rattle.unit_model.specs.Weights.{one_if, weigh}
 use Rattle.unit_model.specs.declared.machine.Core.{Core}
 use Rattle.unit_model.specs.declared.machine.Note.TheVariants.{Drawn, Posted, Cancelled, Received, Taken, Sent}

@@ -1,30 +1,29 @@
 -- The machine begins at rest, and any requests lead it from rest to rest.
-use Rattle.std.proofs.Common.{◌≡◌, ℕ, zero, suc, ◌+◌, ◌*◌, ◌%◌, ◌^◌, ◌==◌, ◌≤◌, ◌<◌, Bool, true, false, List, [], ◌∷◌, ◌++◌, length, map, get_or, replicate, refl, sym, ap, ap₂, subst, ◌∙◌, arith}
+use Rattle.std.proofs.Common.{◌≡◌, ℕ, zero, suc, ◌+◌, ◌*◌, ◌%◌, ◌^◌, ◌≤◌, List, [], ◌∷◌, ◌++◌, length, map, get_or, replicate, refl, sym, ap, ap₂, subst, ◌∙◌, arith}
 use Rattle.std.proofs.Math.Nat.{mod-eq_of_lt}
 use Rattle.std.specs.List.{range_with_len}
 use Rattle.unit_model.proofs.HeldOpening.{all_the_same}
 use Rattle.unit_model.proofs.Presence.{shape_stays}
 use Rattle.unit_model.proofs.SoundRuns.{sound_at_first}
-use Rattle.unit_model.specs.Core.{blank, no_queue, no_seat, queue_of, item_of, owner_of, seat_of}
+use Rattle.unit_model.specs.Core.{blank, no_queue, no_seat, queue_of, item_of, seat_of}
 use Rattle.unit_model.specs.Effects.{after_step}
 use Rattle.unit_model.specs.Holding.{items_of}
 use Rattle.unit_model.specs.Limits.{segment_chunks}
 use Rattle.unit_model.specs.Opening.{first_entries, fresh_queue, opened_core}
-use Rattle.unit_model.specs.Running.{AllEnabled, after_steps}
+use Rattle.unit_model.specs.Running.{after_steps}
 use Rattle.unit_model.specs.declared.machine.Core.{Core}
 use Rattle.unit_model.specs.declared.machine.Entry.{Entry}
 use Rattle.unit_model.specs.declared.machine.Item.{Item}
 use Rattle.unit_model.specs.declared.machine.Owner.TheVariants.{Free}
 use Rattle.unit_model.specs.declared.machine.Queue.{Queue}
-use Rattle.unit_model.specs.declared.machine.Seat.{Seat as SeatLists}
 use Rattle.unit_model.specs.declared.machine.Step.{Step}
 use Rattle.unit_model.specs.declared.shape.Shape.{Shape}
 use Rattle.plain_fabric.proofs.Passing.{one_turn_more}
-use Rattle.plain_fabric.proofs.Runs.{Leads, done, joined, so}
+use Rattle.plain_fabric.proofs.Runs.{Leads, done, joined}
 use Rattle.plain_fabric.proofs.Visits.{answered, hung_up}
-use Rattle.plain_fabric.specs.AtRest.{HasPassed, HasNothingOpen, IsAtRest, free_list, turn_of}
-use Rattle.plain_fabric.specs.Laws.{AllCanPass, CanPass, IsEarly, HasOnePair, OpenedLaw, TraceLaw, parts_of_all}
-use Rattle.plain_fabric.specs.Schedule.{Passed, Answered, HungUp, parts_in, steps_of, trace_from, trace_of}
+use Rattle.plain_fabric.specs.AtRest.{HasPassed, HasNothingOpen, IsAtRest, turn_of}
+use Rattle.plain_fabric.specs.Laws.{AllCanPass, CanPass, IsEarly, OpenedLaw, TraceLaw, parts_of_all}
+use Rattle.plain_fabric.specs.Schedule.{Passed, Answered, HungUp, parts_in, steps_of, trace_from}
 
 -- ---- at first
 

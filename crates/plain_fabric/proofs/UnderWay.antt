@@ -1,5 +1,5 @@
 -- One message under way on a machine that was at rest, step by step: what each step needs, and what it changes.
-use Rattle.std.proofs.Common.{◌≡◌, ◌≢◌, ℕ, ◌+◌, ◌-◌, ◌*◌, ◌==◌, ◌≤◌, ◌<◌, ◌⊎◌, inl, inr, List, [], ◌∷◌, ◌++◌, length, get_or, set, drop, refl, sym, ap, subst, ◌∙◌, arith}
+use Rattle.std.proofs.Common.{◌≡◌, ◌≢◌, ℕ, ◌+◌, ◌==◌, ◌≤◌, ◌<◌, ◌⊎◌, inl, inr, List, [], ◌∷◌, ◌++◌, length, get_or, set, drop, refl, sym, ap, subst, ◌∙◌, arith}
 use Rattle.std.proofs.lemmas.Bool.{cases_Bool, cases_eq}
 use Rattle.std.proofs.lemmas.List.{get_or-set_same, get_or-set_other, length-set}
 use Rattle.unit_model.proofs.Changes.{changed_at, unchanged_at}
@@ -22,12 +22,10 @@ use Rattle.unit_model.specs.Soundness.{IsSound}
 use Rattle.unit_model.specs.declared.machine.Core.{Core}
 use Rattle.unit_model.specs.declared.machine.Entry.{Entry}
 use Rattle.unit_model.specs.declared.machine.Item.{Item}
-use Rattle.unit_model.specs.declared.machine.Note.{Note}
 use Rattle.unit_model.specs.declared.machine.Owner.{Owner}
 use Rattle.unit_model.specs.declared.machine.Owner.TheVariants.{Free, Seat, Message}
 use Rattle.unit_model.specs.declared.machine.Queue.{Queue}
 use Rattle.unit_model.specs.declared.machine.Seat.{Seat as SeatLists}
-use Rattle.unit_model.specs.declared.machine.Step.{Step}
 use Rattle.unit_model.specs.declared.machine.Step.TheVariants.{Claim, Release, GetItem, SetRun, SetPart, Arm, Push, Pop, Settle, GiveItem}
 use Rattle.unit_model.specs.declared.machine.Whereabouts.TheVariants.{InFreeList, InLine, WithSeat}
 use Rattle.unit_model.specs.declared.runs.Run.{Run}

@@ -1,22 +1,21 @@
 -- Whole requests, from rest to rest.
-use Rattle.std.proofs.Common.{◌≡◌, ◌≢◌, ℕ, zero, suc, ◌+◌, ◌-◌, ◌*◌, ◌/◌, ◌%◌, ◌^◌, ◌==◌, ◌&&◌, ◌≤◌, ◌<◌, inl, inr, Bool, true, false, List, [], ◌∷◌, ◌++◌, length, map, get_or, replicate, refl, sym, ap, ap₂, subst, ◌∙◌, arith}
-use Rattle.std.proofs.lemmas.Bool.{cases_Bool, cases_eq, eq-eqb, ne_eqb}
-use Rattle.std.specs.List.{list_any, range_with_len}
+use Rattle.std.proofs.Common.{◌≡◌, ◌≢◌, ℕ, suc, ◌+◌, ◌^◌, ◌==◌, ◌&&◌, ◌≤◌, ◌<◌, inl, inr, Bool, true, false, List, [], ◌∷◌, ◌++◌, length, get_or, refl, sym, ap, subst, ◌∙◌, arith}
+use Rattle.std.proofs.lemmas.Bool.{cases_eq, eq-eqb, ne_eqb}
+use Rattle.std.specs.List.{list_any}
 use Rattle.port_message.specs.Words.{part_word_of}
 use Rattle.unit_model.proofs.Introductions.{met_engine, met_next_stream}
 use Rattle.unit_model.proofs.ListPremises.{own_send}
-use Rattle.unit_model.proofs.SoundRuns.{keeps_sound, sound_at_first}
-use Rattle.unit_model.specs.Conditions.{conditions_by, has_stream, holds_tagged, part_of}
-use Rattle.unit_model.specs.Core.{blank, whereabouts_code, no_queue, no_seat, queue_of, item_of, owner_of, seat_of, role_of, number_in, is_last_in}
+use Rattle.unit_model.proofs.SoundRuns.{keeps_sound}
+use Rattle.unit_model.specs.Conditions.{conditions_by, has_stream, holds_tagged}
+use Rattle.unit_model.specs.Core.{blank, whereabouts_code, no_seat, queue_of, item_of, owner_of, seat_of, role_of, number_in, is_last_in}
 use Rattle.unit_model.specs.Effects.{after_step, with_note, noted, settled_note}
-use Rattle.unit_model.specs.Holding.{FitsQueue, items_of}
-use Rattle.unit_model.specs.Limits.{place_limit, segment_chunks, stream_limit}
+use Rattle.unit_model.specs.Limits.{segment_chunks, stream_limit}
 use Rattle.unit_model.specs.Runs.{chunks_for}
 use Rattle.unit_model.specs.Lists.{change_at}
 use Rattle.unit_model.specs.PartCounts.{of_stream}
-use Rattle.unit_model.specs.Premises.{Fills, Empties, Worker, Engine, MayArm, MayPost, Posts, MaySend, Sends, MaySettle, Cancels}
-use Rattle.unit_model.specs.Running.{AllEnabled, Enabled, after_steps}
-use Rattle.unit_model.specs.Shapes.{IsValid, role_in}
+use Rattle.unit_model.specs.Premises.{Fills, Empties, Worker, Engine, MayArm, Posts, Sends, MaySettle, Cancels}
+use Rattle.unit_model.specs.Running.{Enabled}
+use Rattle.unit_model.specs.Shapes.{role_in}
 use Rattle.unit_model.specs.Soundness.{IsSound}
 use Rattle.unit_model.specs.Weights.{weigh}
 use Rattle.unit_model.specs.declared.machine.Core.{Core}
@@ -24,18 +23,16 @@ use Rattle.unit_model.specs.declared.machine.Item.{Item}
 use Rattle.unit_model.specs.declared.machine.Note.TheVariants.{Drawn, Posted, Cancelled, Received, Taken, Sent}
 use Rattle.unit_model.specs.declared.machine.Owner.TheVariants.{Free}
 use Rattle.unit_model.specs.declared.machine.Part.{Part}
-use Rattle.unit_model.specs.declared.machine.Queue.{Queue}
 use Rattle.unit_model.specs.declared.machine.Seat.{Seat as SeatLists}
-use Rattle.unit_model.specs.declared.machine.Step.{Step}
 use Rattle.unit_model.specs.declared.machine.Step.TheVariants.{Draw}
 use Rattle.unit_model.specs.declared.shape.Shape.{Shape}
 use Rattle.plain_fabric.proofs.Passing.{CanSend, IsReady, IsSent, IsOver, sent_lane, sending_leads, taking_leads, cancelling_leads, passed_here, passed_beside, all_free}
 use Rattle.plain_fabric.proofs.Runs.{Leads, done, then, joined, so}
 use Rattle.plain_fabric.proofs.Streams.{Goes, any_last, goes_first, goes_on, goes_out, cancelled_again, number_is, last_is, none_sent, unclosed_next, unlast_next, unposted}
 use Rattle.plain_fabric.specs.AtRest.{HasPassed, HasNothingOpen, IsAtRest}
-use Rattle.plain_fabric.specs.Laws.{AllFit, AnsweredLaw, FitsSegment, HungUpLaw, IsEarly}
+use Rattle.plain_fabric.specs.Laws.{AllFit, AnsweredLaw, FitsSegment, HungUpLaw}
 use Rattle.plain_fabric.specs.declared.message.Message.{Message}
-use Rattle.plain_fabric.specs.Schedule.{item_of_message, answered_steps, hung_up_steps, part_message, part_steps, request_message, sending, taking, cancelling}
+use Rattle.plain_fabric.specs.Schedule.{item_of_message, part_message, part_steps, request_message, sending, taking, cancelling}
 
 -- ---- one engine and one worker
 

@@ -1,5 +1,5 @@
 -- A machine of one engine and one worker between two requests: nothing is under way.
-use Rattle.std.specs.Prelude.{ℕ, ◌+◌, ◌*◌, ◌%◌, ◌≡◌, ◌≤◌, ◌⊎◌, ◌==◌, ◌&&◌, true, List, [], map}
+use Rattle.std.specs.Prelude.{ℕ, ◌+◌, ◌%◌, ◌≡◌, ◌⊎◌, ◌==◌, ◌&&◌, true, List, [], map}
 use Rattle.std.specs.List.{list_any, range_with_len}
 use Rattle.unit_model.specs.Conditions.{has_stream}
 use Rattle.unit_model.specs.Core.{queue_of, item_of, owner_of, seat_of}

@@ -2,6 +2,7 @@
 -- seat 1. All steps of a request are done before those of the next one.
 use Rattle.std.specs.Prelude.{ℕ, ◌+◌, ◌%◌, ◌==◌, Bool, List, [], ◌∷◌, ◌++◌, length, map}
 use Rattle.port_message.specs.Words.{part_word_of}
+use Rattle.unit_model.specs.Core.{chunk_number}
 use Rattle.unit_model.specs.Holding.{first_segment, items_of}
 use Rattle.unit_model.specs.Runs.{chunks_of}
 use Rattle.unit_model.specs.declared.machine.Step.{Step}
@@ -28,6 +29,10 @@ run_of_message shape m = record {
   size = m.size;
 }
 
+-- the first of them, over all segments
+abbrev pub first_chunk : Shape → Message → ℕ
+first_chunk shape m = chunk_number (first_segment shape m.queue) 0
+
 -- where its item is given back: behind all others
 abbrev pub place_behind : Shape → Message → ℕ
 place_behind shape m = shape.start + items_of shape m.queue + m.before
@@ -39,35 +44,52 @@ claims seat run = map (λ chunk. Claim seat run.segment chunk) (chunks_of run)
 abbrev pub releases : ℕ → Run → List Step
 releases seat run = map (λ chunk. Release seat run.segment chunk) (chunks_of run)
 
--- the sender claims the chunks, gets an item, sets its run and its part, arms it and pushes it
-abbrev pub sending : Shape → Message → List Step
-sending shape m =
-    claims m.from (run_of_message shape m)
-    ++ GetItem m.from m.queue (item_of_message shape m) (place_of_message shape m)
+-- the sender gets an item, sets its run and its part, arms it and pushes it
+abbrev pub posting : Shape → Message → List Step
+posting shape m =
+    GetItem m.from m.queue (item_of_message shape m) (place_of_message shape m)
     ∷ SetRun m.from m.queue (item_of_message shape m) (run_of_message shape m)
     ∷ SetPart m.from m.queue (item_of_message shape m) m.part
     ∷ Arm m.from m.queue (item_of_message shape m) m.stream
     ∷ Push m.from m.queue (item_of_message shape m) (place_of_message shape m)
     ∷ []
 
--- the taker pops the item, settles it, releases the chunks and gives the item back
-abbrev pub taking : Shape → Message → List Step
-taking shape m =
+-- it has claimed the chunks before
+abbrev pub sending : Shape → Message → List Step
+sending shape m = claims m.from (run_of_message shape m) ++ posting shape m
+
+-- the taker pops the item and settles it
+abbrev pub winning : Shape → Message → List Step
+winning shape m =
     Pop m.to m.queue (item_of_message shape m) (place_of_message shape m)
     ∷ Settle m.to m.queue (item_of_message shape m) m.stream
-    ∷ releases m.to (run_of_message shape m)
-    ++ GiveItem m.to m.queue (item_of_message shape m) (place_behind shape m)
     ∷ []
 
--- the sender settles its own message and releases the chunks; the taker pops the item and gives it
--- back
-abbrev pub cancelling : Shape → Message → List Step
-cancelling shape m =
-    Settle m.from m.queue (item_of_message shape m) m.stream
-    ∷ releases m.from (run_of_message shape m)
+-- a seat gives the item back
+abbrev pub giving : Shape → Message → Step
+giving shape m = GiveItem m.to m.queue (item_of_message shape m) (place_behind shape m)
+
+-- then it releases the chunks and gives the item back
+abbrev pub freeing : Shape → Message → List Step
+freeing shape m = releases m.to (run_of_message shape m) ++ giving shape m ∷ []
+
+abbrev pub taking : Shape → Message → List Step
+taking shape m = winning shape m ++ freeing shape m
+
+-- the sender settles its own message
+abbrev pub settling : Shape → Message → Step
+settling shape m = Settle m.from m.queue (item_of_message shape m) m.stream
+
+-- it releases the chunks; the taker pops the item and gives it back
+abbrev pub undoing : Shape → Message → List Step
+undoing shape m =
+    releases m.from (run_of_message shape m)
     ++ Pop m.to m.queue (item_of_message shape m) (place_of_message shape m)
-    ∷ GiveItem m.to m.queue (item_of_message shape m) (place_behind shape m)
+    ∷ giving shape m
     ∷ []
+
+abbrev pub cancelling : Shape → Message → List Step
+cancelling shape m = settling shape m ∷ undoing shape m
 
 -- ---- one request, with so many streams drawn and so many parts sent before
 

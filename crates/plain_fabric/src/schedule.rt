@@ -1,14 +1,14 @@
 //! The steps of a request, from the engine to the worker and back.
 ghost use Rattle.std.specs.Prelude.{◌≡◌, ◌+◌, ◌++◌, ◌<◌, ◌≤◌, ◌^◌, length, IfOk, OnOk};
 ghost use Rattle.plain_fabric.specs.Laws.{HasOnePair};
-ghost use Rattle.plain_fabric.specs.Schedule.{answered_steps, claims, hung_up_steps, part_steps, place_behind, releases, sending, taking, cancelling};
+ghost use Rattle.plain_fabric.specs.Schedule.{answered_steps, cancelling, claims, freeing, giving, hung_up_steps, part_steps, place_behind, posting, releases, sending, settling, taking, undoing, winning};
 
 use crate::message::Message;
 use std::alloc::{AllocError, Global};
 use unit_model::{Run, Shape, Step};
 
 // The chunks of a run are claimed, in ascending order.
-fn claim(steps: &mut Vec<Step>, seat: u32, run: Run) -> Result<(), AllocError>
+pub(crate) fn claim(steps: &mut Vec<Step>, seat: u32, run: Run) -> Result<(), AllocError>
     requires { run.chunk ≡ 0 }
     ensures { OnOk result (steps.new.items ≡ steps.old.items ++ claims seat run) }
 {
@@ -37,11 +37,15 @@ fn release(steps: &mut Vec<Step>, seat: u32, run: Run) -> Result<(), AllocError>
     Ok(())
 }
 
-// The sender's steps of a message.
-fn send(steps: &mut Vec<Step>, shape: &Shape, message: &Message) -> Result<(), AllocError>
+// The sender's steps of a message, once it has the chunks.
+pub(crate) fn post(
+    steps: &mut Vec<Step>,
+    shape: &Shape,
+    message: &Message,
+) -> Result<(), AllocError>
     requires plain { HasOnePair shape.now }
     requires early { place_behind shape.now message.now < 2 ^ 63 }
-    ensures { OnOk result (steps.new.items ≡ steps.old.items ++ sending shape.now message.now) }
+    ensures { OnOk result (steps.new.items ≡ steps.old.items ++ posting shape.now message.now) }
 {
     let Message {
         from: seat,
@@ -53,7 +57,6 @@ fn send(steps: &mut Vec<Step>, shape: &Shape, message: &Message) -> Result<(), A
     let run = message.run(shape);
     let item = message.item(shape);
     let place = message.place(shape);
-    claim(steps, seat, run)?;
     steps.push(Step::GetItem {
         seat,
         queue,
@@ -87,11 +90,21 @@ fn send(steps: &mut Vec<Step>, shape: &Shape, message: &Message) -> Result<(), A
     Ok(())
 }
 
-// The taker's steps of a message.
-fn take(steps: &mut Vec<Step>, shape: &Shape, message: &Message) -> Result<(), AllocError>
+// The sender's steps of a message.
+fn send(steps: &mut Vec<Step>, shape: &Shape, message: &Message) -> Result<(), AllocError>
     requires plain { HasOnePair shape.now }
     requires early { place_behind shape.now message.now < 2 ^ 63 }
-    ensures { OnOk result (steps.new.items ≡ steps.old.items ++ taking shape.now message.now) }
+    ensures { OnOk result (steps.new.items ≡ steps.old.items ++ sending shape.now message.now) }
+{
+    claim(steps, message.from, message.run(shape))?;
+    post(steps, shape, message)
+}
+
+// The taker's steps until it has the chunks.
+pub(crate) fn win(steps: &mut Vec<Step>, shape: &Shape, message: &Message) -> Result<(), AllocError>
+    requires plain { HasOnePair shape.now }
+    requires early { place_behind shape.now message.now < 2 ^ 63 }
+    ensures { OnOk result (steps.new.items ≡ steps.old.items ++ winning shape.now message.now) }
 {
     let Message {
         to: seat,
@@ -112,13 +125,79 @@ fn take(steps: &mut Vec<Step>, shape: &Shape, message: &Message) -> Result<(), A
         item,
         stream,
     })?;
-    release(steps, seat, message.run(shape))?;
-    steps.push(Step::GiveItem {
-        seat,
-        queue,
-        item,
+    Ok(())
+}
+
+// The step by which the taker gives the item back.
+fn giving(shape: &Shape, message: &Message) -> Step
+    requires plain { HasOnePair shape.now }
+    requires early { place_behind shape.now message.now < 2 ^ 63 }
+    ensures { result ≡ giving shape.now message.now }
+{
+    Step::GiveItem {
+        seat: message.to,
+        queue: message.queue,
+        item: message.item(shape),
         place: message.place_behind(shape),
+    }
+}
+
+// The taker's steps once it has what was in the chunks.
+pub(crate) fn free(
+    steps: &mut Vec<Step>,
+    shape: &Shape,
+    message: &Message,
+) -> Result<(), AllocError>
+    requires plain { HasOnePair shape.now }
+    requires early { place_behind shape.now message.now < 2 ^ 63 }
+    ensures { OnOk result (steps.new.items ≡ steps.old.items ++ freeing shape.now message.now) }
+{
+    release(steps, message.to, message.run(shape))?;
+    steps.push(giving(shape, message))?;
+    Ok(())
+}
+
+// The taker's steps of a message.
+fn take(steps: &mut Vec<Step>, shape: &Shape, message: &Message) -> Result<(), AllocError>
+    requires plain { HasOnePair shape.now }
+    requires early { place_behind shape.now message.now < 2 ^ 63 }
+    ensures { OnOk result (steps.new.items ≡ steps.old.items ++ taking shape.now message.now) }
+{
+    win(steps, shape, message)?;
+    free(steps, shape, message)
+}
+
+/// The step by which the sender settles its own message.
+pub(crate) fn settling(shape: &Shape, message: &Message) -> Step
+    requires plain { HasOnePair shape.now }
+    ensures { result ≡ settling shape.now message.now }
+{
+    Step::Settle {
+        seat: message.from,
+        queue: message.queue,
+        item: message.item(shape),
+        stream: message.stream,
+    }
+}
+
+// The steps of such a message, once the sender has what was in the chunks.
+pub(crate) fn undo(
+    steps: &mut Vec<Step>,
+    shape: &Shape,
+    message: &Message,
+) -> Result<(), AllocError>
+    requires plain { HasOnePair shape.now }
+    requires early { place_behind shape.now message.now < 2 ^ 63 }
+    ensures { OnOk result (steps.new.items ≡ steps.old.items ++ undoing shape.now message.now) }
+{
+    release(steps, message.from, message.run(shape))?;
+    steps.push(Step::Pop {
+        seat: message.to,
+        queue: message.queue,
+        item: message.item(shape),
+        place: message.place(shape),
     })?;
+    steps.push(giving(shape, message))?;
     Ok(())
 }
 
@@ -129,34 +208,8 @@ fn cancel(steps: &mut Vec<Step>, shape: &Shape, message: &Message) -> Result<(),
     ensures { OnOk result
         (steps.new.items ≡ steps.old.items ++ cancelling shape.now message.now) }
 {
-    let Message {
-        from,
-        to: seat,
-        queue,
-        stream,
-        ..
-    } = *message;
-    let item = message.item(shape);
-    steps.push(Step::Settle {
-        seat: from,
-        queue,
-        item,
-        stream,
-    })?;
-    release(steps, from, message.run(shape))?;
-    steps.push(Step::Pop {
-        seat,
-        queue,
-        item,
-        place: message.place(shape),
-    })?;
-    steps.push(Step::GiveItem {
-        seat,
-        queue,
-        item,
-        place: message.place_behind(shape),
-    })?;
-    Ok(())
+    steps.push(settling(shape, message))?;
+    undo(steps, shape, message)
 }
 
 // The steps of the parts of a reply from this number on, by their sizes.

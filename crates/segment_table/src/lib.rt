@@ -11,8 +11,8 @@ mod contents;
 mod laws;
 mod map_steps;
 mod seat;
-mod single;
 mod table;
+mod table_steps;
 
 pub use chunk_map::Claim;
 pub use closing::ClosedSlots;

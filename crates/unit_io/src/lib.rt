@@ -25,6 +25,6 @@ pub use list_clock::ListClock;
 pub use mem_conn::{Event, MemConn, MemTicket};
 pub use mem_link::{LinkEvent, MemLink};
 pub use memory::{MemSink, MemSource};
-pub use output::write_all;
+pub use output::{write_all, write_both};
 pub use stop::{Stop, write_line};
 pub use stream::{Failed, Sink, Source};

@@ -22,7 +22,7 @@ pub fn write_all<K: Sink>(out: &mut K, bytes: &[u8]) -> Result<(), Failed>
 }
 
 /// Writes the first bytes and then the second ones, or a front of both before a fault.
-pub(crate) fn write_both<K: Sink>(out: &mut K, first: &[u8], second: &[u8]) -> Result<(), Failed>
+pub fn write_both<K: Sink>(out: &mut K, first: &[u8], second: &[u8]) -> Result<(), Failed>
     ensures all { OnOk result
         (Adds (K.written out.old) (K.written out.new) (first.now ++ second.now)) }
     ensures front { AddsFront (K.written out.old) (K.written out.new) (first.now ++ second.now) }

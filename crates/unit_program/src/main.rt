@@ -2,16 +2,15 @@
 #![tactic(auto)]
 
 mod handlers;
-mod standard;
 #[cfg(test)]
 mod tests;
 
 use handlers::ProgramHandlers;
-use standard::{StdSink, StdSource};
 use std::alloc::{AllocError, Global};
 use std::process::ExitCode;
 use std::{env, io};
 use unit_io::Sink;
+use unit_net::{StdSink, StdSource};
 use unit_top::unit_top;
 
 // The words behind the program's name. A word that isn't UTF-8 makes them a faulty command line, as no words are.

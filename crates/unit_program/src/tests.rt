@@ -1,6 +1,7 @@
 //! Worked rows: what each command writes for its input, and with which status it ends.
 
 mod check;
+mod exchange;
 
 use crate::handlers::ProgramHandlers;
 use std::alloc::AllocError;

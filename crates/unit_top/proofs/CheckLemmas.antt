@@ -19,7 +19,7 @@ use Rattle.trace_check.proofs.Stood.{decided_stays}
 use Rattle.unit_io.specs.Status.{input_limit}
 use Rattle.unit_io.specs.Told.{Takes}
 use Rattle.unit_top.specs.Check.{IsCheckRead, check_outcome, is_too_long, verdict_outcome, verdict_status}
-use Rattle.unit_top.specs.Outcome.{Outcome, Refused}
+use Rattle.unit_top.specs.Outcome.{Refused}
 
 -- where a line decided, more bytes change nothing
 stays : (front more : List ℕ) → is_decided (standing_of front) ≡ true → standing_of (front ++ more) ≡ standing_of front

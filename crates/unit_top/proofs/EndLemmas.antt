@@ -1,5 +1,5 @@
 -- How commands end.
-use Rattle.std.proofs.Common.{ℕ, ◌<◌, ◌≤◌, ◌≡◌, ◌≢◌, ◌++◌, ◌⊎◌, inl, inr, ◌∙◌, sym, ap, refl, subst, cond, List, [], Bool, true, false, length, Option, Some, Result, Ok, Err, OnOk, IfErr, nat_le, arith}
+use Rattle.std.proofs.Common.{ℕ, ◌≡◌, ◌≢◌, ◌⊎◌, inl, inr, ◌∙◌, sym, ap, refl, subst, cond, List, [], ◌∷◌, Bool, true, false, ◌&&◌, if◌then◌else◌, bytes_eq, codes, length, Option, Some, None, Result, Ok, Err, OnOk, IfErr, nat_le, arith}
 use Rattle.std.proofs.lemmas.List.{append-nil}
 use Rattle.unit_types.specs.declared.message.Request.{Request}
 use Rattle.unit_types.specs.declared.message.Reply.{Reply}
@@ -9,8 +9,9 @@ use Rattle.unit_io.specs.declared.stop.Stop.TheVariants as stop
 use Rattle.unit_io.specs.Status.{IsReadStop, input_limit, status_in, status_of}
 use Rattle.unit_io.specs.Told.{Adds, AddsFront}
 use Rattle.unit_top.specs.Check.{IsCheckRead, check_outcome}
-use Rattle.unit_top.specs.Command.{Command, Once, Check}
+use Rattle.unit_top.specs.Command.{Command, Once, Exchange, Check, command_of, is_listed}
 use Rattle.unit_top.specs.Ends.{EndsAs, IsEnd, IsInput, IsPlace, IsStatus, outcome_of}
+use Rattle.unit_top.specs.Exchange.{exchange_outcome}
 use Rattle.unit_top.specs.Outcome.{Outcome, Refused, Written, once_outcome, output_in}
 
 pub is_status : {T : Type 0} (r : Result T Stop) → IsStatus (status_in r)
@@ -160,41 +161,58 @@ ends_with_0 (Err s) output before after adds front stops = ends_cut output 0 s b
 
 -- ---- the command that the words ask for
 
-pub once_ends : (reply_of : List ℕ → Request → Reply) (asked : Option Command) (handler : List ℕ) (left before after : Option (List ℕ)) (status result : ℕ)
-    → result ≡ status → asked ≡ Some (Once handler) → ((input : List ℕ) → left ≡ Some input → EndsAs (once_outcome reply_of handler input) status before after)
-    → (command : Command) → asked ≡ Some command → (input : List ℕ) → IsInput command left input → EndsAs (outcome_of reply_of command input) result before after
-once_ends reply_of asked handler left before after status result same is ends command other input =
-    subst (λ (d : Command). IsInput d left input → EndsAs (outcome_of reply_of d input) result before after) (one_command asked (Once handler) command is other)
-    (λ told. subst (λ (n : ℕ). EndsAs (once_outcome reply_of handler input) n before after) (sym same) (ends input told))
-
-pub check_ends : (reply_of : List ℕ → Request → Reply) (asked : Option Command) (left before after : Option (List ℕ)) (status result : ℕ)
-    → result ≡ status → asked ≡ Some Check → ((trace : List ℕ) → left ≡ Some trace → EndsAs (check_outcome trace) status before after)
-    → (command : Command) → asked ≡ Some command → (input : List ℕ) → IsInput command left input → EndsAs (outcome_of reply_of command input) result before after
-check_ends reply_of asked left before after status result same is ends command other input =
-    subst (λ (d : Command). IsInput d left input → EndsAs (outcome_of reply_of d input) result before after) (one_command asked Check command is other)
-    (λ told. subst (λ (n : ℕ). EndsAs (check_outcome input) n before after) (sym same) (ends input told))
+pub command_ends : (reply_of : List ℕ → Request → Reply) (names : List (List ℕ)) (asked : Option Command) (own : Command) (left before after : Option (List ℕ)) (status result : ℕ)
+    → result ≡ status → asked ≡ Some own → ((input : List ℕ) → IsInput own left input → EndsAs (outcome_of reply_of names own input) status before after)
+    → (command : Command) → asked ≡ Some command → (input : List ℕ) → IsInput command left input → EndsAs (outcome_of reply_of names command input) result before after
+command_ends reply_of names asked own left before after status result same is ends command other input =
+    subst (λ (d : Command). IsInput d left input → EndsAs (outcome_of reply_of names d input) result before after) (one_command asked own command is other)
+    (λ told. subst (λ (n : ℕ). EndsAs (outcome_of reply_of names own input) n before after) (sym same) (ends input told))
 
 -- the place with which the input is refused
-pub once_place : (reply_of : List ℕ → Request → Reply) (asked : Option Command) (handler : List ℕ) (left before after : Option (List ℕ)) (status result place : ℕ)
-    → result ≡ status → asked ≡ Some (Once handler) → ((input : List ℕ) → left ≡ Some input → EndsAs (once_outcome reply_of handler input) status before after)
-    → (status ≡ 6 → place ≡ input_limit) → result ≡ 6 → (command : Command) → asked ≡ Some command → IsPlace reply_of command left place
-once_place reply_of asked handler left before after status result place same is ends limit six command other =
-    let at : place ≡ input_limit = limit (sym same ∙ six) in
-    subst (λ (d : Command). IsPlace reply_of d left place) (one_command asked (Once handler) command is other)
-    (record {
-      told = λ input told. once_refused reply_of handler input (subst (λ (n : ℕ). IsEnd (once_outcome reply_of handler input) n) (sym same ∙ six) (ends input told).end) ∙ ap Refused (sym at);
+pub command_place : (reply_of : List ℕ → Request → Reply) (names : List (List ℕ)) (asked : Option Command) (own : Command) (left : Option (List ℕ)) (status result place : ℕ)
+    → result ≡ status → asked ≡ Some own → (status ≡ 6 → IsPlace reply_of names own left place)
+    → result ≡ 6 → (command : Command) → asked ≡ Some command → IsPlace reply_of names command left place
+command_place reply_of names asked own left status result place same is at six command other =
+    subst (λ (d : Command). IsPlace reply_of names d left place) (one_command asked own command is other) (at (sym same ∙ six))
+
+pub once_place : (reply_of : List ℕ → Request → Reply) (names : List (List ℕ)) (handler : List ℕ) (left before after : Option (List ℕ)) (status place : ℕ)
+    → ((input : List ℕ) → left ≡ Some input → EndsAs (once_outcome reply_of handler input) status before after)
+    → (status ≡ 6 → place ≡ input_limit) → status ≡ 6 → IsPlace reply_of names (Once handler) left place
+once_place reply_of names handler left before after status place ends limit six =
+    let at : place ≡ input_limit = limit six in
+    record {
+      told = λ input told. once_refused reply_of handler input (subst (λ (n : ℕ). IsEnd (once_outcome reply_of handler input) n) six (ends input told).end) ∙ ap Refused (sym at);
       once = λ h e. at;
-    })
+    }
 
-not_once : (handler : List ℕ) → Check ≡ Once handler → ⊥
-not_once handler e = cc e
+not_exchange : (handler : List ℕ) → Exchange ≡ Once handler → ⊥
+not_exchange handler e = cc e
 
-pub check_place : (reply_of : List ℕ → Request → Reply) (asked : Option Command) (left : Option (List ℕ)) (status result place : ℕ)
-    → result ≡ status → asked ≡ Some Check → (status ≡ 6 → (trace : List ℕ) → left ≡ Some trace → check_outcome trace ≡ Refused place)
-    → result ≡ 6 → (command : Command) → asked ≡ Some command → IsPlace reply_of command left place
-check_place reply_of asked left status result place same is refused six command other =
-    subst (λ (d : Command). IsPlace reply_of d left place) (one_command asked Check command is other)
-    (record {
-      told = refused (sym same ∙ six);
-      once = λ h e. absurd (not_once h e);
-    })
+not_check : (handler : List ℕ) → Check ≡ Once handler → ⊥
+not_check handler e = cc e
+
+pub exchange_place : (reply_of : List ℕ → Request → Reply) (names : List (List ℕ)) (left : Option (List ℕ)) (place : ℕ)
+    → ((input : List ℕ) → left ≡ Some input → exchange_outcome reply_of names input ≡ Refused place) → IsPlace reply_of names Exchange left place
+exchange_place reply_of names left place refused = record { told = refused; once = λ h e. absurd (not_exchange h e) }
+
+pub check_place : (reply_of : List ℕ → Request → Reply) (names : List (List ℕ)) (left : Option (List ℕ)) (place : ℕ)
+    → ((trace : List ℕ) → left ≡ Some trace → check_outcome trace ≡ Refused place) → IsPlace reply_of names Check left place
+check_place reply_of names left place refused = record { told = refused; once = λ h e. absurd (not_check h e) }
+
+-- ---- a handler that `once` names is there
+
+pub asks_listed : (names words : List (List ℕ)) (handler : List ℕ) → command_of names words ≡ Some (Once handler) → is_listed names handler ≡ true
+asks_listed names [] handler is = absurd (cc is)
+asks_listed names (word ∷ []) handler is = by (bytes_eq word (codes "exchange")) (bytes_eq word (codes "check")) is
+  where
+    by : (exchange check : Bool) → (if exchange then Some Exchange else if check then Some Check else None) ≡ Some (Once handler) → is_listed names handler ≡ true
+    by true check is = absurd (cc is)
+    by false true is = absurd (cc is)
+    by false false is = absurd (cc is)
+asks_listed names (word ∷ other ∷ []) handler is = by (bytes_eq word (codes "once")) (is_listed names other) refl is
+  where
+    by : (once listed : Bool) → is_listed names other ≡ listed → (if once && listed then Some (Once other) else None) ≡ Some (Once handler) → is_listed names handler ≡ true
+    by true true there is = let same : other ≡ handler = cc is in subst (λ (name : List ℕ). is_listed names name ≡ true) same there
+    by true false there is = absurd (cc is)
+    by false listed there is = absurd (cc is)
+asks_listed names (a ∷ b ∷ c ∷ ds) handler is = absurd (cc is)

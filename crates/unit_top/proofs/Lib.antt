@@ -1,4 +1,6 @@
 mod CheckLemmas
+mod ConnectionLemmas
 mod EndLemmas
+mod ExchangeLemmas
 mod OnceLemmas
 mod TextLemmas

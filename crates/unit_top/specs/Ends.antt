@@ -7,7 +7,8 @@ use Rattle.unit_io.specs.Causes.{Rose}
 use Rattle.unit_io.specs.Status.{input_limit, line_of}
 use Rattle.unit_io.specs.Told.{Adds, AddsFront}
 use Rattle.unit_top.specs.Check.{check_outcome}
-use Rattle.unit_top.specs.Command.{Command, Once, Check}
+use Rattle.unit_top.specs.Command.{Command, Once, Exchange, Check}
+use Rattle.unit_top.specs.Exchange.{exchange_outcome}
 use Rattle.unit_top.specs.Outcome.{Outcome, Refused, Written, once_outcome, output_in}
 
 -- the statuses: all done, a faulty command line, a source that failed, a sink that failed, no memory, a faulty input, an
@@ -23,12 +24,14 @@ IsSilent status = (status ≡ 2) ⊎ ((status ≡ 3) ⊎ (status ≡ 6))
 -- the bytes that a command works on: those that its source tells
 abbrev pub IsInput : Command → Option (List ℕ) → List ℕ → Type 0
 IsInput (Once handler) left input = left ≡ Some input
+IsInput Exchange left input = left ≡ Some input
 IsInput Check left input = left ≡ Some input
 
--- what a command makes of these bytes
-abbrev pub outcome_of : (List ℕ → Request → Reply) → Command → List ℕ → Outcome
-outcome_of reply_of (Once handler) input = once_outcome reply_of handler input
-outcome_of reply_of Check input = check_outcome input
+-- what a command makes of these bytes, where these are the names of the handlers
+abbrev pub outcome_of : (List ℕ → Request → Reply) → List (List ℕ) → Command → List ℕ → Outcome
+outcome_of reply_of names (Once handler) input = once_outcome reply_of handler input
+outcome_of reply_of names Exchange input = exchange_outcome reply_of names input
+outcome_of reply_of names Check input = check_outcome input
 
 -- the status of each outcome; in its place a fault of the source, where the outcome is written a fault of the sink, or want of
 -- memory may come
@@ -62,6 +65,6 @@ line_of_status status place =
 
 -- the place of a faulty input is the one with which it is refused, where the source tells it; of `once` it is the limit,
 -- told or not
-pub record IsPlace (reply_of : List ℕ → Request → Reply) (command : Command) (left : Option (List ℕ)) (place : ℕ) : Type 0 where
-  pub told : (input : List ℕ) → IsInput command left input → outcome_of reply_of command input ≡ Refused place
+pub record IsPlace (reply_of : List ℕ → Request → Reply) (names : List (List ℕ)) (command : Command) (left : Option (List ℕ)) (place : ℕ) : Type 0 where
+  pub told : (input : List ℕ) → IsInput command left input → outcome_of reply_of names command input ≡ Refused place
   pub once : (handler : List ℕ) → command ≡ Once handler → place ≡ input_limit

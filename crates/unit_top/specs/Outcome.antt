@@ -1,10 +1,9 @@
 -- What a command makes of its input.
-use Rattle.std.specs.Prelude.{ℕ, ◌≡◌, ◌⊎◌, nat_le, List, [], length, if◌then◌else◌}
+use Rattle.std.specs.Prelude.{ℕ, nat_le, List, [], length, if◌then◌else◌}
 use Rattle.unit_types.specs.declared.message.Request.{Request}
 use Rattle.unit_types.specs.declared.message.Reply.{Reply}
 use Rattle.unit_io.specs.Status.{input_limit}
 use Rattle.http_front.specs.Session.{once_of}
-use Rattle.unit_top.specs.Command.{Command, Once, Check}
 
 -- what becomes of an input where no fault is met and memory isn't wanting
 pub data Outcome : Type 0 where

@@ -8,7 +8,9 @@ use unit_types::Bytes;
 #[derive(Clone, Copy, Debug, Drop)]
 pub enum Command<'a> {
     /// One connection on the source, every request of which goes to the handler of this name.
-    Once(&'a [u8]),
+    Once(&'a str),
+    /// The script on the source.
+    Exchange,
     /// The check of a trace on the source.
     Check,
 }
@@ -26,16 +28,17 @@ fn is_name(names: &[Bytes], name: &[u8]) -> bool
     names.iter().any(|known| is_same(name, known))
 }
 
-/// What the words ask for: `once HANDLER`, where a handler has that name, or `check`. None where they are neither.
+/// What the words ask for: `once HANDLER`, where a handler has that name, `exchange` or `check`. None where they are neither.
 pub fn command_of<'a>(names: &[Bytes], words: &'a [String]) -> Option<Command<'a>>
     ensures some { IfSome result
         (λ command. command_of names.now (map string_bytes words.now) ≡ Some (asked command)) }
     ensures none { IfNone result (command_of names.now (map string_bytes words.now) ≡ None) }
 {
     match words {
+        [word] if word.as_str() == "exchange" => Some(Command::Exchange),
         [word] if word.as_str() == "check" => Some(Command::Check),
         [word, handler] if word.as_str() == "once" && is_name(names, handler.as_bytes()) => {
-            Some(Command::Once(handler.as_bytes()))
+            Some(Command::Once(handler.as_str()))
         }
         _ => None,
     }

@@ -3,6 +3,8 @@
 
 mod check;
 mod command;
+mod connection;
+mod exchange;
 mod once;
 mod top;
 

@@ -1,35 +1,104 @@
-//! One connection, from the bytes that it sent to the bytes that it gets.
-ghost use Rattle.std.specs.Prelude.{◌≡◌, ◌++◌, ◌<◌, ◌==◌, ◌||◌, false, true, IfOk, OnOk};
-ghost use Rattle.http_front.specs.Message as spec;
+//! One connection to one handler: the connection of a configuration that sends each request there.
+ghost use Rattle.std.specs.Prelude.{◌≡◌, true, All, IfOk};
+ghost use Rattle.serde_json.specs.Data.{no_members, object, string};
+ghost use Rattle.conf_tree.specs.Document.{IsDocument};
+ghost use Rattle.conf_tree.specs.View.{data_of};
+ghost use Rattle.conf_validate.specs.Configuration.{configuration_of};
+ghost use Rattle.conf_validate.specs.Current.{numbered};
 ghost use Rattle.http_front.specs.Session.{once_of};
-ghost use Rattle.http_front.specs.Written.{error_bytes};
+ghost use Rattle.unit_top.specs.Command.{is_listed};
+ghost use Rattle.unit_top.specs.Once as spec;
+ghost use Rattle.unit_types.specs.Limits.{IsShortName};
 
-use http_front::{
-    Next, Reader, continue_reply, error_reply, is_head_request, is_last_request, write_http,
-};
+use crate::connection::{client_address, connection_output, listener_address};
+use conf_tree::{Path, Tree, TreeMap, put};
+use conf_validate::{ConfFault, Current, validate};
 use std::alloc::{AllocError, Global};
-use unit_types::{Addr, Bytes, DEFAULT_CONTENT_LIMIT, Handlers, Request};
+use std::sync::Arc;
+use unit_types::{Bytes, Handlers};
 
-/// The most requests of a connection.
-const REQUEST_LIMIT: u32 = 1000;
+/// The name of the listener, and its port.
+const LISTENER: &str = "*:8080";
 
-/// 127.0.0.1
-const LOOPBACK: u32 = 0x7F00_0001;
+const PORT: u16 = 8080;
 
-/// Puts the reply that refuses the bytes of a connection, and closes it, behind `out`.
-fn write_refusal(alloc: Global, status: u16, out: &mut Bytes) -> Result<(), AllocError>
-    requires { status < 1000 }
-    ensures { OnOk result (out.new ≡ out.old ++ error_bytes status false true) }
+fn empty(alloc: Global) -> Tree
+    ensures value { data_of result ≡ object no_members }
+    ensures document { IsDocument (data_of result) }
 {
-    let reply = error_reply(alloc, status)?;
-    write_http(alloc, &reply, false, true, out)
+    Tree::Object(TreeMap::new(alloc))
 }
 
-// Whether the connection closes behind the answer to `request`, after which `left` more may be answered.
-fn closes(request: &Request, left: u32) -> bool
-    ensures { result ≡ (spec.is_last_request request.now || left == 0) }
+fn text_tree(alloc: Global, text: &str) -> Result<Tree, AllocError>
+    ensures value { IfOk result (λ tree. data_of tree ≡ string text.now) }
+    ensures document { IfOk result (λ tree. IsDocument (data_of tree)) }
 {
-    is_last_request(request) || left == 0
+    Ok(Tree::Text(Bytes::copy_of(alloc, text.as_bytes())?))
+}
+
+/// The object with one more member; a value that is no object stays as it is.
+fn with_member(alloc: Global, mut tree: Tree, name: &str, member: Tree) -> Result<Tree, AllocError>
+    requires tree { IsDocument (data_of tree) }
+    requires member { IsDocument (data_of member) }
+    ensures value { IfOk result
+        (λ new. data_of new ≡ spec.with_member name.now (data_of member) (data_of tree)) }
+    ensures document { IfOk result (λ new. IsDocument (data_of new)) }
+{
+    let mut keys = Vec::new(alloc);
+    keys.push(Bytes::copy_of(alloc, name.as_bytes())?)?;
+    let _done = put(alloc, &mut tree, &Path::of(keys), member)?;
+    Ok(tree)
+}
+
+/// The application `h`, which is this handler.
+fn applications(alloc: Global, handler: &str) -> Result<Tree, AllocError>
+    ensures value { IfOk result (λ tree. data_of tree ≡ spec.applications handler.now) }
+    ensures document { IfOk result (λ tree. IsDocument (data_of tree)) }
+{
+    let executable = text_tree(alloc, handler)?;
+    let application = with_member(alloc, empty(alloc), "executable", executable)?;
+    let external = text_tree(alloc, "external")?;
+    let application = with_member(alloc, application, "type", external)?;
+    with_member(alloc, empty(alloc), "h", application)
+}
+
+/// The listener, which passes to the application `h`.
+fn listeners(alloc: Global) -> Result<Tree, AllocError>
+    ensures value { IfOk result (λ tree. data_of tree ≡ spec.listeners) }
+    ensures document { IfOk result (λ tree. IsDocument (data_of tree)) }
+{
+    let pass = text_tree(alloc, "applications/h")?;
+    let listener = with_member(alloc, empty(alloc), "pass", pass)?;
+    with_member(alloc, empty(alloc), LISTENER, listener)
+}
+
+fn once_document(alloc: Global, handler: &str) -> Result<Tree, AllocError>
+    ensures value { IfOk result (λ tree. data_of tree ≡ spec.once_document handler.now) }
+    ensures document { IfOk result (λ tree. IsDocument (data_of tree)) }
+{
+    let applications = applications(alloc, handler)?;
+    let document = with_member(alloc, empty(alloc), "applications", applications)?;
+    let listeners = listeners(alloc)?;
+    with_member(alloc, document, "listeners", listeners)
+}
+
+/// What the document says, under the number 0.
+fn once_configuration(alloc: Global, names: &[Bytes], handler: &str) -> Result<Current, AllocError>
+    requires short { All IsShortName names.now }
+    requires listed { is_listed names.now handler.now ≡ true }
+    ensures { IfOk result (λ current. numbered current
+        ≡ (0, configuration_of (spec.once_document handler.now))) }
+{
+    let document = once_document(alloc, handler)?;
+    match validate(alloc, &document, names) {
+        Ok(conf) => Ok(Current {
+            number: 0,
+            conf: Arc::new(alloc, conf)?,
+        }),
+        Err(ConfFault::Memory) => Err(AllocError),
+        // It breaks no rule, since the handler is there.
+        Err(ConfFault::Invalid(_)) => unreachable!(),
+    }
 }
 
 /// What a connection with these bytes gets, where each request goes to the handler `name`.
@@ -38,42 +107,15 @@ fn closes(request: &Request, left: u32) -> bool
 pub fn once<H: Handlers>(
     alloc: Global,
     handlers: &H,
-    name: &[u8],
+    name: &str,
     input: Bytes,
 ) -> Result<Bytes, AllocError>
+    requires { is_listed (H.listed handlers.now) name.now ≡ true }
     ensures { IfOk result (λ out. out ≡ once_of H.reply_of name.now input) }
 {
-    let from = Addr {
-        ip: LOOPBACK,
-        port: 40000,
-    };
-    let to = Addr {
-        ip: LOOPBACK,
-        port: 8080,
-    };
-    let mut reader = Reader::over(input, from, to);
-    reader.end();
-    let mut out = Bytes::of(Vec::new(alloc));
-    let mut left = REQUEST_LIMIT;
-    while left > 0 {
-        match reader.next(alloc, DEFAULT_CONTENT_LIMIT)? {
-            Next::Continue => out.append(continue_reply())?,
-            Next::Request(request) => {
-                left -= 1;
-                let close = closes(&request, left);
-                let reply = handlers.reply(alloc, name, &request)?;
-                write_http(alloc, &reply, is_head_request(&request), close, &mut out)?;
-                if close {
-                    return Ok(out);
-                }
-            }
-            Next::Bad(status) => {
-                write_refusal(alloc, status, &mut out)?;
-                return Ok(out);
-            }
-            Next::End | Next::Cut => return Ok(out),
-            Next::NeedMore => unreachable!(),
-        }
-    }
-    Ok(out)
+    let conf = once_configuration(alloc, handlers.names(), name)?;
+    let listener = Bytes::copy_of(alloc, LISTENER.as_bytes())?;
+    let from = client_address();
+    let to = listener_address(PORT);
+    connection_output(alloc, handlers, listener, from, to, input, &conf)
 }

@@ -1,16 +1,17 @@
 //! The top call: words and an input in, an output and a status out.
-ghost use Rattle.std.specs.Prelude.{◌≡◌, ◌≢◌, ◌⊎◌, ◌↔◌, map, string_bytes, ℕ, List, [], Some, None, Option};
+ghost use Rattle.std.specs.Prelude.{◌≡◌, ◌≢◌, ◌⊎◌, ◌↔◌, true, map, string_bytes, ℕ, List, [], Some, None, Option};
 ghost use Rattle.unit_io.specs.Causes.{Rose};
 ghost use Rattle.unit_io.specs.Status.{input_limit, place_in, status_in};
 ghost use Rattle.unit_io.specs.Told.{Adds, AddsFront};
 ghost use Rattle.unit_top.specs.Check.{IsCheckRead};
 ghost use Rattle.unit_top.specs.Command as words_asked;
-ghost use Rattle.unit_top.specs.Command.{Check, command_of};
+ghost use Rattle.unit_top.specs.Command.{Check, command_of, is_listed};
 ghost use Rattle.unit_top.specs.Ends.{EndsAs, HasCauses, IsInput, IsPlace, IsSilent, IsStatus, line_of_status, outcome_of};
 ghost use Rattle.unit_top.specs.Outcome.{once_outcome};
 
 use crate::check::run_check;
 use crate::command::{Command, command_of};
+use crate::exchange::run_exchange;
 use crate::once::once;
 use std::alloc::Global;
 use unit_io::{Sink, Source, Stop, read_all, write_all, write_line};
@@ -19,11 +20,12 @@ use unit_types::Handlers;
 // One connection on the source, answered on the sink.
 fn run_once<S: Source, K: Sink, H: Handlers>(
     alloc: Global,
-    handler: &[u8],
+    handler: &str,
     src: &mut S,
     out: &mut K,
     handlers: &H,
 ) -> Result<(), Stop>
+    requires { is_listed (H.listed handlers.now) handler.now ≡ true }
     ensures used { (status_in result ≢ 2) × (status_in result ≢ 8) }
     ensures ended { status_in result ≡ 0 → (input : List ℕ) → S.left src.old ≡ Some input
         → S.left src.new ≡ Some [] }
@@ -69,8 +71,9 @@ fn end<E: Sink>(err: &mut E, ended: Result<(), Stop>) -> u8
 /// Runs the command that the words ask for, and gives its exit status.
 ///
 /// The words are those behind the program's name. `once HANDLER` reads `src` to its end as the bytes of one connection,
-/// sends each request to the handler of that name, and writes what the client gets to `out`. `check` reads `src` as a
-/// trace, until a line is broken or its step not enabled, and writes its verdict.
+/// sends each request to the handler of that name, and writes what the client gets to `out`. `exchange` reads `src` to its
+/// end as a script, and writes what each of its frames gets. `check` reads `src` as a trace, until a line is broken or its
+/// step not enabled, and writes its verdict.
 ///
 /// | Status | Line on `err` | Comes |
 /// |---|---|---|
@@ -79,7 +82,7 @@ fn end<E: Sink>(err: &mut E, ended: Result<(), Stop>) -> u8
 /// | 3 | `unit: read` | only where the faults of `src` rose, and before a line of a trace decided; nothing was written |
 /// | 4 | `unit: write` | only where the faults of `out` rose; a front of the output was written |
 /// | 5 | `unit: memory` | for want of memory; a front of the output was written |
-/// | 6 | `unit: input N` | exactly where the input has more than N = 268,435,456 bytes, the first N of which in a trace decide nothing, or the first line of a trace that decides begins at byte N and is broken; nothing was written |
+/// | 6 | `unit: input N` | exactly where the input has more than N = 268,435,456 bytes, the first N of which in a trace decide nothing, or the first broken frame of a script, or the first line of a trace that decides, begins at byte N and the line is broken; nothing was written |
 /// | 8 | `unit: illegal` | exactly where the first line of the trace that decides is a step that isn't enabled; all was written |
 ///
 /// 6 and 8 yield to 3, 4 and 5. Of the input and of what was written the clauses speak where `src` and `out` tell it. An `err` that
@@ -102,7 +105,7 @@ pub fn unit_top<S: Source, K: Sink, E: Sink, H: Handlers>(
     ensures outcome { (command : words_asked.Command) → command_of (H.listed handlers.now)
         (map string_bytes words.now) ≡ Some command → (input : List ℕ)
         → IsInput command (S.left src.old) input
-        → EndsAs (outcome_of H.reply_of command input) result (K.written out.old)
+        → EndsAs (outcome_of H.reply_of (H.listed handlers.now) command input) result (K.written out.old)
         (K.written out.new) }
     ensures check { command_of (H.listed handlers.now) (map string_bytes words.now) ≡ Some Check
         → (trace : List ℕ) → S.left src.old ≡ Some trace
@@ -116,10 +119,11 @@ pub fn unit_top<S: Source, K: Sink, E: Sink, H: Handlers>(
         × AddsFront (E.written err.old) (E.written err.new) (line_of_status result place)
         × (result ≡ 6 → (command : words_asked.Command) → command_of (H.listed handlers.now)
         (map string_bytes words.now) ≡ Some command
-        → IsPlace H.reply_of command (S.left src.old) place) }
+        → IsPlace H.reply_of (H.listed handlers.now) command (S.left src.old) place) }
 {
     match command_of(handlers.names(), words) {
         Some(Command::Once(handler)) => end(err, run_once(alloc, handler, src, out, handlers)),
+        Some(Command::Exchange) => end(err, run_exchange(alloc, src, out, handlers)),
         Some(Command::Check) => end(err, run_check(alloc, src, out)),
         None => end(err, Err(Stop::Usage)),
     }

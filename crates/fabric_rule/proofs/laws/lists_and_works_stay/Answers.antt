@@ -1,4 +1,5 @@
 use Rattle.fabric_rule.proofs.Contents.{kept_stay}
+use Rattle.fabric_rule.proofs.Frames.{of_fabric}
 use Rattle.fabric_rule.proofs.ListFrames.{counted_stay, in_work_stay, lists_stay, lists_there, posts_stay, records_stay, streams_stay, works_stay}
 use Rattle.fabric_rule.proofs.laws.lists_and_works_stay.Goals as goal
 
@@ -28,3 +29,6 @@ returns-clause-streams c = streams_stay
 
 pub returns-clause-there : goal.returns-clause-there
 returns-clause-there c = lists_there
+
+pub returns-clause-fabric : goal.returns-clause-fabric
+returns-clause-fabric c = of_fabric

@@ -1,6 +1,7 @@
-use Rattle.fabric_rule.specs.Parts.{ShowsLists}
+use Rattle.fabric_rule.specs.Parts.{IsOfFabric, ShowsLists}
 use Rattle.fabric_rule.specs.Views.{lists_at}
 use Rattle.fabric_rule.specs.declared.view.FabricView.{FabricView}
+use Rattle.fabric_rule.proofs.Frames.{of_each}
 use Rattle.fabric_rule.proofs.KeyedSteps.{keyed_join, keyed_split, keyed_step}
 use Rattle.fabric_rule.proofs.laws.what_one_view_says_stays.Goals as goal
 
@@ -12,3 +13,6 @@ returns-clause-split c core popped = keyed_split FabricView lists_at (ShowsLists
 
 pub returns-clause-join : goal.returns-clause-join
 returns-clause-join c core popped = keyed_join FabricView lists_at (ShowsLists core popped)
+
+pub returns-clause-each : goal.returns-clause-each
+returns-clause-each c core core' = of_each (IsOfFabric core) (IsOfFabric core')

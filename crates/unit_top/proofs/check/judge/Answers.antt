@@ -1,4 +1,4 @@
-use Rattle.std.proofs.Common.{rules, ◌≡◌, ◌<◌, ◌≤◌, ◌++◌, ◌∙◌, ℕ, List, [], length, take, drop, inl, inr, refl, sym, ap, subst, arith, true, false, is_err, length-append}
+use Rattle.std.proofs.Common.{rules, ◌≡◌, ◌<◌, ◌≤◌, ◌++◌, ◌∙◌, ℕ, [], length, take, drop, inl, inr, refl, sym, ap, subst, arith, true, false, is_err, length-append}
 use Rattle.std.proofs.lemmas.List.{length-take}
 use Rattle.trace_check.specs.Checking.{HasRead}
 use Rattle.trace_check.specs.Verdicts.{is_decided, standing_of}

@@ -1,4 +1,3 @@
-use Rattle.std.proofs.Common.{List, ℕ}
 use Rattle.unit_io.specs.Status.{status_in}
 use Rattle.unit_top.specs.Check.{check_outcome, verdict_status}
 use Rattle.unit_top.proofs.EndLemmas.{ends_unread, read_before_fault}

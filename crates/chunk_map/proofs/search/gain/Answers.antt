@@ -1,0 +1,28 @@
+use Rattle.std.proofs.Common.{◌≡◌, ◌+◌, ◌<◌, ◌∙◌, ap, refl, sym, subst, arith}
+use Rattle.unit_model.specs.Weights.{is_number}
+use Rattle.chunk_map.specs.declared.view.MapEvent.TheVariants.{Missed}
+use Rattle.chunk_map.specs.Gains.{gained}
+use Rattle.chunk_map.specs.Looks.{open_seen}
+use Rattle.chunk_map.proofs.GainLaws.{gained_held, log_gained, search_gained}
+use Rattle.chunk_map.proofs.search.gain.Goals as goal
+
+pub take-requires-clause-open : goal.take-requires-clause-open
+take-requires-clause-open g c =
+    let s = g.T.MapSteps in
+    let map = c.args.map.now in
+    let v = s.knows c.args.seat.now in
+    let opened : open_seen (s.events map (s.knows c.loop-i.seat)) ≡ open_seen (s.events map v) =
+    ap (λ (u : s.View). open_seen (s.events map u)) c.loop-i.invariant.1
+    ∙ ap open_seen (log_gained s.View (s.after map) (s.events map) (g.met.T.MapSteps.logs map) c.args.first c.loop-i.i v)
+    ∙ (search_gained c.args.first c.loop-i.i (s.events map v)).opened in
+    omega (arith, opened, c.requires.open, c.loop-i-test.true)
+
+pub give_back-requires-clause-held : goal.give_back-requires-clause-held
+give_back-requires-clause-held g c i lt =
+    let s = g.T.MapSteps in
+    let laws = g.met.T.MapSteps in
+    let map = c.args.map.now in
+    let had = gained (s.after map) c.args.first c.loop-i.i (s.knows c.args.seat.now) in
+    let view = c.if-not-take.ensures.missed refl ∙ ap (s.after map (Missed (c.args.first + c.loop-i.i))) c.loop-i.invariant.1 in
+    subst (λ (u : s.View). 0 < s.weighs map (is_number (c.args.first + i)) u) (sym view)
+    (omega (arith, laws.misses map (is_number (c.args.first + i)) (c.args.first + c.loop-i.i) had, gained_held s.View (s.after map) (s.weighs map) (laws.gains map) (laws.frees map) c.args.first c.loop-i.i i (s.knows c.args.seat.now) lt))

@@ -1,0 +1,5 @@
+use Rattle.fabric_rule.proofs.SeatViews.{works_leave}
+use Rattle.fabric_rule.proofs.table.FabricTable.works_off.Goals as goal
+
+pub split-requires-clause-parted : goal.split-requires-clause-parted
+split-requires-clause-parted g c = works_leave c.args.seat.now.seat.me.0 c.requires.works c.requires.posts c.requires.chunks c.requires.popped
