@@ -82,10 +82,14 @@ fn end<E: Sink>(err: &mut E, ended: Result<(), Stop>) -> u8
 /// | 3 | `unit: read` | only where the faults of `src` rose, and before a line of a trace decided; nothing was written |
 /// | 4 | `unit: write` | only where the faults of `out` rose; a front of the output was written |
 /// | 5 | `unit: memory` | for want of memory; a front of the output was written |
-/// | 6 | `unit: input N` | exactly where the input has more than N = 268,435,456 bytes, the first N of which in a trace decide nothing, or the first broken frame of a script, or the first line of a trace that decides, begins at byte N and the line is broken; nothing was written |
+/// | 6 | `unit: input N` | exactly where the input is refused at N; nothing was written |
 /// | 8 | `unit: illegal` | exactly where the first line of the trace that decides is a step that isn't enabled; all was written |
 ///
-/// 6 and 8 yield to 3, 4 and 5. Of the input and of what was written the clauses speak where `src` and `out` tell it. An `err` that
+/// An input of more than 268,435,456 bytes is refused at this limit, a trace only where its first that many bytes decide
+/// nothing. Else a script is refused at the byte where its first broken frame begins, and a trace where the first line that
+/// decides begins, if that line is broken.
+///
+/// 6 yields to 3 and 5, and 8 to 3, 4 and 5. Of the input and of what was written the clauses speak where `src` and `out` tell it. An `err` that
 /// fails changes no status.
 pub fn unit_top<S: Source, K: Sink, E: Sink, H: Handlers>(
     alloc: Global,
