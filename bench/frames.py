@@ -1,4 +1,4 @@
-"""python3 bench/frames.py  shows what `exchange` costs, as ratios against something in the same run.
+"""python3 bench/frames.py  shows what `exchange` and `trace` cost, as ratios against something in the same run.
 
 It needs the built programs (`rt ci`, or `./unit once hello </dev/null` and `rt run` in crates/unit_bench).
 """
@@ -42,6 +42,11 @@ def main():
         os.unlink(path)
     measure.report("20,000 frames beside 10,000: time", times[1] / times[0], 2.2)
     measure.report("20,000 frames beside 10,000: memory", sizes[1] / sizes[0], 2.2)
+
+    path = measure.with_input([control(DOCUMENT), page * 10000])
+    (traced, _), (answered, _) = measure.best([[measure.UNIT, "trace"], exchange], path, 20)
+    measure.report("the trace of 10,000 requests: time", traced / answered, 4)
+    os.unlink(path)
 
     head = b"POST / HTTP/1.1\r\nHost: a\r\nContent-Length: %d\r\n\r\n" % CONTENT
     parts = [control(DOCUMENT), connection(b"*:8081", len(head) + CONTENT), head, b"x" * CONTENT]

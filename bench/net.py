@@ -59,10 +59,16 @@ class Server:
         raise SystemExit("bench/net.py: %s doesn't listen" % name)
 
     def spent(self):
-        """Processor seconds so far."""
-        with open("/proc/%d/stat" % self.child.pid, encoding="utf-8") as it:
-            words = it.read().rpartition(")")[2].split()
-        return sum(int(word) for word in words[11:15]) / os.sysconf("SC_CLK_TCK")
+        """Processor seconds so far, with those of a worker that is a process of its own."""
+        own = "/proc/%d" % self.child.pid
+        with open("%s/task/%d/children" % (own, self.child.pid), encoding="utf-8") as it:
+            folders = [own] + ["/proc/" + pid for pid in it.read().split()]
+        ticks = 0
+        for folder in folders:
+            with open(folder + "/stat", encoding="utf-8") as it:
+                words = it.read().rpartition(")")[2].split()
+            ticks += int(words[11]) + int(words[12])
+        return ticks / os.sysconf("SC_CLK_TCK")
 
     def close(self):
         self.child.send_signal(signal.SIGTERM)
@@ -80,8 +86,16 @@ def rate(server, active, idle, seconds):
     return float(subprocess.run(command, capture_output=True, text=True, check=True).stdout)
 
 
+def loaded(server, active, idle, seconds):
+    """The rate of a server under that load, and its requests for each second of a processor."""
+    before = server.spent()
+    found = rate(server, active, idle, seconds)
+    spent = server.spent() - before
+    return found, found * seconds / max(spent, 0.01)
+
+
 def rounds(ours, theirs):
-    """The ratio of the two in each round, in turn first, and the median."""
+    """The two ratios of the sides, whose first is by turns ours and theirs: the median of each over the rounds."""
     ratios = []
     for number in range(ROUNDS):
         sides = [ours, theirs]
@@ -90,12 +104,12 @@ def rounds(ours, theirs):
         found = [side() for side in sides]
         if number % 2:
             found.reverse()
-        ratios.append(found[0] / found[1])
-    return statistics.median(ratios)
+        ratios.append([ours_of / theirs_of for ours_of, theirs_of in zip(*found)])
+    return [statistics.median(each) for each in zip(*ratios)]
 
 
-def told(what, ratio, mark):
-    print("%s: %.2f (at least %s)" % (what, ratio, mark), flush=True)
+def told(what, ratios, mark):
+    print("%s: %.2f (at least %s), for each second of a processor %.2f" % (what, ratios[0], mark, ratios[1]), flush=True)
 
 
 def at_rest():
@@ -124,6 +138,26 @@ def without_descriptors():
         server.close()
 
 
+def without_rights():
+    """Whether a link fails at a port below 1,024 without rights, and a server that stands serves on; None as it can't be tried."""
+    if os.geteuid() != 0:
+        return None
+    server = Server("echo")
+    try:
+        with socket.create_connection(("127.0.0.1", server.port), 5) as client:
+            copy = os.path.join(server.room, "net_bench")
+            shutil.copyfile(BENCH, copy)
+            os.chmod(copy, 0o755)
+            os.chmod(server.room, 0o755)
+            # It serves for good, but where its first accept fails.
+            ended = subprocess.run([copy, "echo", "1023"], user=65534, group=65534, extra_groups=[], timeout=20, check=False)
+            return ended.returncode == 0 and asked(client)
+    except subprocess.TimeoutExpired:
+        return False
+    finally:
+        server.close()
+
+
 def asked(client):
     """Whether the client has its reply within half a second."""
     try:
@@ -140,14 +174,15 @@ def main():
         return 0
     seconds = float(sys.argv[1]) if len(sys.argv) > 1 else 1.0
     other = "nginx" if shutil.which("nginx") else "plain"
-    print("against %s, by %s" % (other, "wrk" if shutil.which("wrk") else "clients of our own"))
+    print("against %s, by %s; load average %.1f"
+          % (other, "wrk" if shutil.which("wrk") else "clients of our own", os.getloadavg()[0]))
     ours, theirs = Server("echo"), Server(other)
     try:
         for active in (1, 16, 64, 256):
-            ratio = rounds(lambda: rate(ours, active, 0, seconds), lambda: rate(theirs, active, 0, seconds))
-            told("requests a second at %d connections" % active, ratio, 1.0)
-        ratio = rounds(lambda: rate(ours, 1, 240, seconds), lambda: rate(ours, 1, 0, seconds))
-        told("one active beside 240 idle ones, against it alone", ratio, 0.9)
+            ratios = rounds(lambda: loaded(ours, active, 0, seconds), lambda: loaded(theirs, active, 0, seconds))
+            told("requests a second at %d connections" % active, ratios, 1.0)
+        ratios = rounds(lambda: loaded(ours, 1, 240, seconds), lambda: loaded(ours, 1, 0, seconds))
+        told("one active beside 240 idle ones, against it alone", ratios, 0.9)
     finally:
         ours.close()
         theirs.close()
@@ -155,6 +190,12 @@ def main():
     answered, late, busy = without_descriptors()
     print("without descriptors: %d of 60 served, %d of the others later; %.0f %% of a processor meanwhile"
           % (answered, late, 100 * busy))
+    rights = without_rights()
+    if rights is None:
+        print("a port below 1,024 without rights: skipped, since only root can give rights away")
+    else:
+        print("a port below 1,024 without rights: %s"
+              % ("the link fails, and another serves on" if rights else "NOT refused, or another was disturbed"))
     return 0
 
 

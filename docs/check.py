@@ -1,7 +1,8 @@
 """python3 docs/check.py  looks whether the pages still agree with the tree, and prints a line for each place where they don't.
 
 Links lead to files; README has at most 900 words; no cell of proved.md has more than 40, and what its first column names stands in
-the crate; the limits of formats.md stand where it says; definitions.md and the lists of architecture.md are as docs/make-lists.py
+the crate; the limits of formats.md stand where it says; the calls of calls.tsv are there, and make steps of
+the machine; definitions.md and the lists of architecture.md are as docs/make-lists.py
 makes them.
 """
 import glob
@@ -99,8 +100,21 @@ def lists():
             target.write(text)
 
 
+def calls():
+    code = sources_of("fabric_rule", "src")
+    steps = text_of(os.path.join(HERE, "machine.tsv")).lower()
+    for line in text_of(os.path.join(HERE, "calls.tsv")).split("\n")[1:]:
+        if line:
+            _, _, call, made = line.split("\t")
+            if not re.search(r"pub fn %s\b" % call, code):
+                say("calls.tsv names %s, which fabric_rule hasn't" % call)
+            for step in made.lower().split(", "):
+                if step != "none" and not re.search(r"\b%s\b" % step, steps):
+                    say("calls.tsv names %s, which is no step of machine.tsv" % step)
+
+
 def main():
-    for check in (links, readme, proved, limits, lists):
+    for check in (links, readme, proved, limits, calls, lists):
         check()
     print("docs: %d places to mend" % len(FOUND))
     return 1 if FOUND else 0

@@ -41,8 +41,8 @@ impl LineBuffer {
     /// Puts the line with its LF behind `out`.
     ///
     /// Fails for want of memory alone; `out` is then as before.
-    pub(crate) fn append_to(mut self, out: &mut Bytes) -> Result<(), AllocError>
-        ensures ok { OnOk result (out.new ≡ out.old ++ (written self ++ 10 ∷ [])) }
+    pub(crate) fn append_to(&mut self, out: &mut Bytes) -> Result<(), AllocError>
+        ensures ok { OnOk result (out.new ≡ out.old ++ (written self.old ++ 10 ∷ [])) }
         ensures err { OnErr result (out.new ≡ out.old) }
     {
         self.bytes[self.end] = b'\n';

@@ -8,7 +8,7 @@ ghost use Rattle.access_log.specs.Line.{is_plain, log_value, logged, logged_byte
 
 use crate::buffer::LineBuffer;
 use itoa::Buffer;
-use path_normal::{TextBytes, Value, value_of};
+use path_normal::{Value, value_of};
 use unit_types::{Addr, Request};
 
 /// What a line tells of.
@@ -38,15 +38,12 @@ pub(crate) fn append_value(buffer: &mut LineBuffer, name: &[u8], exchange: &Exch
         return buffer.push(b'$');
     }
     if name == b"status".as_slice() {
-        return append_logged(
-            buffer,
-            Value::Text(TextBytes::plain(&digits_of(exchange.status))),
-        );
+        return append_text(buffer, &digits_of(exchange.status));
     }
     if name == b"body_bytes_sent".as_slice() {
         let mut digits = Buffer::new();
         let number = digits.format(exchange.body);
-        return append_logged(buffer, text(number.as_bytes()));
+        return append_text(buffer, number.as_bytes());
     }
     match exchange.request {
         Some(request) => append_request_value(buffer, name, request),
@@ -68,18 +65,11 @@ fn append_request_value(buffer: &mut LineBuffer, name: &[u8], request: &Request)
 fn append_request_line(buffer: &mut LineBuffer, request: &Request)
     ensures { Appends (logged (request_line_of request.now)) buffer.old buffer.new }
 {
-    append_rest(buffer, text(request.method.as_slice()));
+    append_bytes(buffer, request.method.as_slice());
     buffer.push(b' ');
-    append_rest(buffer, text(request.target.as_slice()));
+    append_bytes(buffer, request.target.as_slice());
     buffer.push(b' ');
-    append_rest(buffer, text(protocol_of(request.minor)));
-}
-
-/// A text as a value.
-fn text(bytes: &[u8]) -> Value<'_>
-    ensures { value_left result ≡ bytes.now }
-{
-    Value::Text(TextBytes::plain(bytes))
+    append_bytes(buffer, protocol_of(request.minor));
 }
 
 /// The protocol's name and version.
@@ -151,6 +141,26 @@ fn append_rest(buffer: &mut LineBuffer, rest: Value<'_>)
 {
     for byte in rest {
         append_byte(buffer, byte);
+    }
+}
+
+/// Puts a text behind the line as a value is written; an empty one is `-`.
+fn append_text(buffer: &mut LineBuffer, text: &[u8])
+    ensures { Appends (logged text.now) buffer.old buffer.new }
+{
+    if text.is_empty() {
+        buffer.push(b'-');
+    } else {
+        append_bytes(buffer, text);
+    }
+}
+
+/// The same, nothing where it is empty.
+fn append_bytes(buffer: &mut LineBuffer, text: &[u8])
+    ensures { Appends (logged_bytes text.now) buffer.old buffer.new }
+{
+    for byte in text {
+        append_byte(buffer, *byte);
     }
 }
 

@@ -32,6 +32,8 @@ impl<'a> RingSteps for Lane<'a> {
 
     ghost may_put = { λ r x v. MayPut r.side x v };
 
+    ghost may_take = { λ r v. Unit {0} };
+
     fn slot_count(&self) -> u32 {
         self.queue.size
     }
@@ -63,4 +65,6 @@ impl<'a> RingSteps for Lane<'a> {
     ghost logs = { λ r e v u is. makes_logs r.side e v u is };
 
     ghost looks_keep = { λ r e x v u look is may. look_keeps r.side e x v u look is may };
+
+    ghost looks_keep_take = { λ r e v u look is may. may };
 }

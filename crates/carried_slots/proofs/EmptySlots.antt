@@ -77,6 +77,34 @@ module _ {T : Type 0} where
       by (Some y) at ne = ap (λ (o : Option T). empty_gone o k x xs (without_empty k xs)) at
       by None at ne = ap (λ (o : Option T). empty_gone o k x xs (without_empty k xs)) at ∙ gone_there x xs (without_empty k xs) k ne
 
+  -- what doesn't weigh the slot weighs as much without it
+  pub gone_weightless : (f : ℕ → ℕ) (k : ℕ) (c : List (ℕ × Option T)) → f k ≡ 0 → empty_weight f (without_empty k c) ≡ empty_weight f c
+  gone_weightless f k [] none = refl
+  gone_weightless f k (x ∷ xs) none = by (gone_weightless f k xs none) x.1 refl
+    where
+      by : empty_weight f (without_empty k xs) ≡ empty_weight f xs → (o : Option T) → x.1 ≡ o → empty_weight f (empty_gone x.1 k x xs (without_empty k xs)) ≡ weight_if_empty x.1 (f x.0) + empty_weight f xs
+      by more (Some y) is = omega (arith, ap (λ (o : Option T). empty_weight f (empty_gone o k x xs (without_empty k xs))) is, more)
+      by more None is = ⊎_elim
+          (λ same. omega (
+            arith,
+            ap (λ (o : Option T). empty_weight f (empty_gone o k x xs (without_empty k xs))) is,
+            ap (empty_weight f) (gone_here x xs (without_empty k xs) k same),
+            ap (λ (o : Option T). weight_if_empty o (f x.0)) is,
+            ap f same,
+            none,
+          ))
+          (λ ne. omega (
+            arith,
+            ap (λ (o : Option T). empty_weight f (empty_gone o k x xs (without_empty k xs))) is,
+            ap (empty_weight f) (gone_there x xs (without_empty k xs) k ne),
+            more,
+          ))
+          (cases_eq x.0 k)
+
+  pub empty_same : (f g : ℕ → ℕ) (c : List (ℕ × Option T)) → ((k : ℕ) → f k ≡ g k) → empty_weight f c ≡ empty_weight g c
+  empty_same f g [] same = refl
+  empty_same f g (x ∷ xs) same = omega (arith, ap (weight_if_empty x.1) (same x.0), empty_same f g xs same)
+
   -- ---- what a slot has
 
   -- empty slots, and those with values, are all of them

@@ -2,6 +2,8 @@ pub mod Lookups
 pub mod Moving
 pub mod RunLists
 pub mod EmptySlots
+pub mod EmptyRuns
+pub mod Ranges
 pub mod Contents
 pub mod RunMoving
 pub mod FreeSlots

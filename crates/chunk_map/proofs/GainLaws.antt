@@ -1,5 +1,5 @@
 -- What a view holds, and what a search saw, after it gained neighbouring chunks or gave them back.
-use Rattle.std.proofs.Common.{ℕ, zero, suc, ◌≡◌, ◌≢◌, ◌+◌, ◌<◌, ◌≤◌, ◌==◌, ◌⊎◌, inl, inr, ⊎_elim, Bool, true, false, if◌then◌else◌, List, [], ◌∷◌, ◌++◌, refl, sym, ap, ◌∙◌, arith}
+use Rattle.std.proofs.Common.{ℕ, zero, suc, ◌≡◌, ◌≢◌, ◌+◌, ◌<◌, ◌≤◌, ◌==◌, ◌⊎◌, inl, inr, ⊎_elim, Bool, true, false, if◌then◌else◌, List, [], ◌∷◌, ◌++◌, refl, sym, ap, subst, ◌∙◌, arith}
 use Rattle.std.specs.List.{range_with_len}
 use Rattle.std.proofs.lemmas.Bool.{eq-eqb, ne_eqb, cases_eq}
 use Rattle.unit_model.specs.Weights.{weigh, below, is_number}
@@ -39,6 +39,14 @@ module _ (V : Type 0) (after : MapEvent → V → V) where
       let missed : V = after (Missed (first + n)) had in
       steps_on v had (tried after first n v) (steps_gained first n v) (steps_on had missed (tried after first n v) (steps_one (Missed (first + n)) had missed refl) (steps_back first n missed))
 
+  -- what each event leaves true, some events leave true
+  pub steps_keep : (Holds : V → Type 0) → ((e : MapEvent) (v : V) → Holds v → Holds (after e v)) → (v u : V) → Steps after v u → Holds v → Holds u
+  steps_keep Holds keeps v u steps holds = subst Holds (sym steps.1) (by steps.0)
+    where
+      by : (es : List MapEvent) → Holds (with_events after es v)
+      by [] = holds
+      by (e ∷ es) = keeps e (with_events after es v) (by es)
+
   -- what a view tells of its log
   module _ (log : V → List MapEvent) (logs : (e : MapEvent) (v : V) → log (after e v) ≡ e ∷ log v) where
     pub log_gained : (first n : ℕ) (v : V) → log (gained after first n v) ≡ gained more first n (log v)
@@ -55,24 +63,7 @@ module _ (V : Type 0) (after : MapEvent → V → V) where
         ∙ ap (given_back more first n) (logs (Missed (first + n)) (gained after first n v) ∙ ap (more (Missed (first + n))) (log_gained first n v))
 
   -- what is held weighs
-  module _ (weighs : (ℕ → ℕ) → V → ℕ) (gains : (f : ℕ → ℕ) (chunk : ℕ) (v : V) → weighs f (after (Gained chunk) v) ≡ f chunk + weighs f v)
-      (frees : (f : ℕ → ℕ) (chunk : ℕ) (v : V) → 0 < weighs (is_number chunk) v → weighs f (after (Released chunk) v) + f chunk ≡ weighs f v) where
-    pub gained_weigh : (first n : ℕ) (v : V) (f : ℕ → ℕ) → weighs f (gained after first n v) ≡ below (λ i. f (first + i)) n + weighs f v
-    gained_weigh first zero v f = omega arith
-    gained_weigh first (suc n) v f = omega (arith, gained_weigh first n v f, gains f (first + n) (gained after first n v))
-
-    pub gained_run : (first n : ℕ) (v : V) (f : ℕ → ℕ) → weighs f (gained after first n v) ≡ weigh f (range_with_len first n) + weighs f v
-    gained_run first n v f = omega (arith, gained_weigh first n v f, weigh_range f first n)
-
-    pub gained_held : (first n i : ℕ) (v : V) → i < n → 0 < weighs (is_number (first + i)) (gained after first n v)
-    gained_held first zero i v lt = absurd (omega (arith, lt))
-    gained_held first (suc n) i v lt =
-        let one : weighs (is_number (first + i)) (gained after first (suc n) v) ≡ is_number (first + i) (first + n) + weighs (is_number (first + i)) (gained after first n v) = gains (is_number (first + i)) (first + n) (gained after first n v) in
-        ⊎_elim
-        (λ is. omega (arith, one, ap (λ (k : ℕ). is_number (first + k) (first + n)) is, is_number_same (first + n)))
-        (λ ne. omega (arith, one, gained_held first n i v (omega (arith, lt, ne))))
-        (cases_eq i n)
-
+  module _ (weighs : (ℕ → ℕ) → V → ℕ) (frees : (f : ℕ → ℕ) (chunk : ℕ) (v : V) → 0 < weighs (is_number chunk) v → weighs f (after (Released chunk) v) + f chunk ≡ weighs f v) where
     -- a chunk given back leaves the others
     pub still_held : (chunk other : ℕ) (v : V) → chunk ≢ other → 0 < weighs (is_number chunk) v → 0 < weighs (is_number other) v → 0 < weighs (is_number other) (after (Released chunk) v)
     still_held chunk other v ne mine theirs = omega (arith, theirs, frees (is_number other) chunk v mine, is_number_other other chunk ne)
@@ -90,16 +81,35 @@ module _ (V : Type 0) (after : MapEvent → V → V) where
               frees f (first + n) v last,
             )
 
+  -- of a map with so many chunks
+  module _ (weighs : (ℕ → ℕ) → V → ℕ) (size : ℕ) (gains : (f : ℕ → ℕ) (chunk : ℕ) (v : V) → chunk < size → weighs f (after (Gained chunk) v) ≡ f chunk + weighs f v) where
+    pub gained_weigh : (first n : ℕ) (v : V) (f : ℕ → ℕ) → first + n ≤ size → weighs f (gained after first n v) ≡ below (λ i. f (first + i)) n + weighs f v
+    gained_weigh first zero v f fits = omega arith
+    gained_weigh first (suc n) v f fits = omega (arith, gained_weigh first n v f (omega (arith, fits)), gains f (first + n) (gained after first n v) (omega (arith, fits)))
+
+    pub gained_run : (first n : ℕ) (v : V) (f : ℕ → ℕ) → first + n ≤ size → weighs f (gained after first n v) ≡ weigh f (range_with_len first n) + weighs f v
+    gained_run first n v f fits = omega (arith, gained_weigh first n v f fits, weigh_range f first n)
+
+    pub gained_held : (first n i : ℕ) (v : V) → first + n ≤ size → i < n → 0 < weighs (is_number (first + i)) (gained after first n v)
+    gained_held first zero i v fits lt = absurd (omega (arith, lt))
+    gained_held first (suc n) i v fits lt =
+        let one : weighs (is_number (first + i)) (gained after first (suc n) v) ≡ is_number (first + i) (first + n) + weighs (is_number (first + i)) (gained after first n v) = gains (is_number (first + i)) (first + n) (gained after first n v) (omega (arith, fits)) in
+        ⊎_elim
+        (λ is. omega (arith, one, ap (λ (k : ℕ). is_number (first + k) (first + n)) is, is_number_same (first + n)))
+        (λ ne. omega (arith, one, gained_held first n i v (omega (arith, fits)) (omega (arith, lt, ne))))
+        (cases_eq i n)
+
     -- a try leaves what is held
-    pub tried_weigh : ((f : ℕ → ℕ) (chunk : ℕ) (v : V) → weighs f (after (Missed chunk) v) ≡ weighs f v) → (first n : ℕ) (v : V) (f : ℕ → ℕ) → weighs f (tried after first n v) ≡ weighs f v
-    tried_weigh misses first n v f =
+    pub tried_weigh : ((f : ℕ → ℕ) (chunk : ℕ) (v : V) → 0 < weighs (is_number chunk) v → weighs f (after (Released chunk) v) + f chunk ≡ weighs f v) → ((f : ℕ → ℕ) (chunk : ℕ) (v : V) → weighs f (after (Missed chunk) v) ≡ weighs f v)
+        → (first n : ℕ) (v : V) (f : ℕ → ℕ) → first + n ≤ size → weighs f (tried after first n v) ≡ weighs f v
+    tried_weigh frees misses first n v f fits =
         let had : V = gained after first n v in
         let missed : V = after (Missed (first + n)) had in
         omega (
           arith,
-          back_weigh first n missed f (λ i lt. omega (arith, misses (is_number (first + i)) (first + n) had, gained_held first n i v lt)),
+          back_weigh weighs frees first n missed f (λ i lt. omega (arith, misses (is_number (first + i)) (first + n) had, gained_held first n i v fits lt)),
           misses f (first + n) had,
-          gained_run first n v f,
+          gained_run first n v f fits,
         )
 
 -- ---- what the search saw

@@ -31,6 +31,9 @@ pub trait MapSteps {
     /// What the chunks weigh that the view holds of this map.
     ghost weighs: { Self → (ℕ → ℕ) → View → ℕ };
 
+    /// Chunks may be taken.
+    ghost may_take: { Self → View → Type 0 };
+
     /// Loads how many segments are open.
     fn see_open(&self, seat: &mut Self::Seat) -> u64
         requires own { belongs seat.old self.now }
@@ -51,6 +54,7 @@ pub trait MapSteps {
         requires own { belongs seat.old self.now }
         requires chunk { chunk < segment_chunks * segments self.now }
         requires open { chunk < segment_chunks * open_seen (events self.now (knows seat.old)) }
+        requires may { may_take self.now (knows seat.old) }
         ensures own { belongs seat.new self.now }
         ensures gained { IsTrue result
             → knows seat.new ≡ after self.now (Gained chunk) (knows seat.old) }
@@ -77,9 +81,13 @@ pub trait MapSteps {
         → weighs map f (after map (Missed chunk) v) ≡ weighs map f v };
 
     ghost gains: { (map : Self) (f : ℕ → ℕ) (chunk : ℕ) (v : View)
+        → chunk < segment_chunks * segments map
         → weighs map f (after map (Gained chunk) v) ≡ f chunk + weighs map f v };
 
     ghost frees: { (map : Self) (f : ℕ → ℕ) (chunk : ℕ) (v : View)
         → 0 < weighs map (is_number chunk) v
         → weighs map f (after map (Released chunk) v) + f chunk ≡ weighs map f v };
+
+    ghost keeps_may_take: { (map : Self) (e : MapEvent) (v : View)
+        → may_take map v → may_take map (after map e v) };
 }

@@ -25,6 +25,8 @@ impl MapSteps for ChunkMap {
 
     ghost weighs = { λ m f v. held_by f v };
 
+    ghost may_take = { λ m v. Unit {0} };
+
     fn see_open(&self, seat: &mut MapSeat) -> u64 {
         self.load_open(seat)
     }
@@ -49,7 +51,9 @@ impl MapSteps for ChunkMap {
 
     ghost misses = { λ m f chunk v. refl };
 
-    ghost gains = { λ m f chunk v. refl };
+    ghost gains = { λ m f chunk v inside. refl };
 
     ghost frees = { λ m f chunk v mine. frees_one f chunk v.held mine };
+
+    ghost keeps_may_take = { λ m e v may. may };
 }

@@ -97,6 +97,7 @@ pub fn give_back<T: MapSteps>(map: &T, seat: &mut T::Seat, first: usize, count: 
 // Gains so many chunks, or as many of them as come before the first one that isn't free, which it gives back.
 fn gain<T: MapSteps>(map: &T, seat: &mut T::Seat, first: usize, count: usize) -> usize
     requires own { T.belongs seat.old map.now }
+    requires may { T.may_take map.now (T.knows seat.old) }
     requires within { first + count ≤ segment_chunks * T.segments map.now }
     requires open { first + count
         ≤ segment_chunks * open_seen (T.events map.now (T.knows seat.old)) }
@@ -155,6 +156,7 @@ fn claim_in<T: MapSteps>(
     count: usize,
 ) -> Option<usize>
     requires own { T.belongs seat.old map.now }
+    requires may { T.may_take map.now (T.knows seat.old) }
     requires segment { segment < T.segments map.now }
     requires few { T.segments map.now ≤ 8 }
     requires open { segment < open_seen (T.events map.now (T.knows seat.old)) }
@@ -213,6 +215,7 @@ fn claim_behind<T: MapSteps>(
     size: u32,
 ) -> Option<Run>
     requires own { T.belongs seat.old map.now }
+    requires may { T.may_take map.now (T.knows seat.old) }
     requires size { (1 ≤ size) × (size ≤ segment_chunks * chunk_bytes) }
     requires few { T.segments map.now ≤ 8 }
     requires open { (opened ≡ open_seen (T.events map.now (T.knows seat.old))) × (1 ≤ opened)
@@ -272,6 +275,7 @@ fn search_among<T: MapSteps>(
     size: u32,
 ) -> Option<Run>
     requires own { T.belongs seat.old map.now }
+    requires may { T.may_take map.now (T.knows seat.old) }
     requires size { (1 ≤ size) × (size ≤ segment_chunks * chunk_bytes) }
     requires open { (1 ≤ opened) × (opened ≤ T.segments map.now) × (T.segments map.now ≤ 8) }
     requires unseen { (number : ℕ) → slice_index seen.old.words number ≡ 0 }
@@ -307,7 +311,7 @@ fn search_among<T: MapSteps>(
 }
 
 /// Claims a run of as many neighbouring chunks as so many bytes need, among so many open segments, in a search that has begun
-/// and has looked at no chunk yet. The search takes the lowest segment, and in it the lowest chunks, that its looks allow;
+/// and has looked at no chunk yet, by a seat that may take chunks. The search takes the lowest segment, and in it the lowest chunks, that its looks allow;
 /// chunks gained on the way to a full map are given back. It is full exactly where the looks at all chunks of these segments
 /// have no such run.
 ///
@@ -315,6 +319,7 @@ fn search_among<T: MapSteps>(
 /// from then on, also after it was given back.
 pub fn claim_among<T: MapSteps>(map: &T, seat: &mut T::Seat, opened: usize, size: u32) -> Claim
     requires own { T.belongs seat.old map.now }
+    requires may { T.may_take map.now (T.knows seat.old) }
     requires size { (1 ≤ size) × (size ≤ segment_chunks * chunk_bytes) }
     requires open { (1 ≤ opened) × (opened ≤ T.segments map.now) × (T.segments map.now ≤ 8) }
     requires begins { Begins opened (T.events map.now (T.knows seat.old)) }
@@ -351,6 +356,7 @@ pub fn claim_among<T: MapSteps>(map: &T, seat: &mut T::Seat, opened: usize, size
 /// `claim_among` after that load.
 pub fn claim_run<T: MapSteps>(map: &T, seat: &mut T::Seat, size: u32) -> Claim
     requires own { T.belongs seat.old map.now }
+    requires may { T.may_take map.now (T.knows seat.old) }
     requires size { (1 ≤ size) × (size ≤ segment_chunks * chunk_bytes) }
     ensures own { T.belongs seat.new map.now }
     ensures told { Steps (T.after map.now) (T.knows seat.old) (T.knows seat.new) }

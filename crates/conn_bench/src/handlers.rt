@@ -16,7 +16,7 @@ pub struct Measured;
 fn text_reply(alloc: Global, body: Bytes) -> Result<Reply, AllocError>
     ensures { IfOk result (λ reply. reply ≡ text_reply body) }
 {
-    let mut fields = Vec::new(alloc);
+    let mut fields = Vec::with_capacity(alloc, 1)?;
     fields.push(Field {
         name: Bytes::copy_of(alloc, b"Content-Type")?,
         value: Bytes::copy_of(alloc, b"text/plain")?,

@@ -82,7 +82,7 @@ module _ (c : Connection) (t : Told) (s : State) (confs : List Configuration) (i
           ∙ ap waits_in (is.under bound confs [] s.ended way agrees (now s)).1 ∙ ap is_some (sym way)
 
 -- where a request is under way, its connection is open
-still : (c : Connection) (s : State) (bound : Numbered) → IsSettled c s → s.bound ≡ Some bound → s.closed ≡ false
+pub still : (c : Connection) (s : State) (bound : Numbered) → IsSettled c s → s.bound ≡ Some bound → s.closed ≡ false
 still c s bound settled way = by s.closed refl
   where
     by : (over : Bool) → s.closed ≡ over → s.closed ≡ false

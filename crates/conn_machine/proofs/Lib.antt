@@ -1,8 +1,10 @@
 mod AfterLemmas
 mod AnsweredLemmas
 mod AskingLemmas
+mod AsksLemmas
 mod BackLemmas
 mod CallLemmas
+mod ConnectionLemmas
 mod CourseLemmas
 mod EndLemmas
 mod EndedLemmas
@@ -16,6 +18,7 @@ mod NamedTurns
 mod NeedLemmas
 mod OneLemmas
 mod PlainLemmas
+mod ReceiptLemmas
 mod RecordLemmas
 mod ReplyingLemmas
 mod SameLemmas

@@ -1,6 +1,5 @@
 -- Under one configuration, the calls on a connection keep to it, and what is written in the end is its plain session.
-use Rattle.std.proofs.Common.{ℕ, zero, suc, ◌≡◌, ◌≢◌, ◌<◌, ◌≤◌, ◌-◌, arith, refl, sym, ap, ◌∙◌, subst, List, [], ◌∷◌, ◌++◌, length, take, drop, Bool, true, false, ◌||◌, nat_lt, if◌then◌else◌, Option, Some, None, slice_get, append-nil}
-use Rattle.std.proofs.lemmas.List.{append_assoc}
+use Rattle.std.proofs.Common.{ℕ, zero, suc, ◌≡◌, ◌≢◌, ◌<◌, ◌≤◌, ◌-◌, arith, refl, sym, ap, ◌∙◌, subst, List, [], ◌∷◌, ◌++◌, length, take, Bool, true, false, ◌||◌, nat_lt, if◌then◌else◌, Option, Some, None, slice_get, append-nil}
 use Rattle.std.specs.Option.{is_some}
 use Rattle.unit_types.specs.declared.message.Reply.{Reply}
 use Rattle.unit_types.specs.declared.message.Request.{Request}
@@ -17,7 +16,7 @@ use Rattle.conn_machine.specs.declared.receipt.Need.TheVariants.{Read, Ask, Writ
 use Rattle.conn_machine.specs.declared.receipt.Receipt.{Receipt}
 use Rattle.conn_machine.specs.Answers.{Connection, reply_to}
 use Rattle.conn_machine.specs.Asking.{is_app}
-use Rattle.conn_machine.specs.Calls.{Account, IsSound, Reaches, closed_with, found_at, front_answer, on_answer, on_bytes, on_end, opened, own_answer, replied_with, settled, taken_with, wrote}
+use Rattle.conn_machine.specs.Calls.{Account, Reaches, closed_with, found_at, front_answer, on_bytes, on_end, opened, own_answer, replied_with, settled, taken_with, wrote}
 use Rattle.conn_machine.specs.Laws.{ArePlain, is_plain_kind, plain_connection}
 use Rattle.conn_machine.specs.One.{AreGiven, IsServedByOne, IsUnderOne, after_reply}
 use Rattle.conn_machine.specs.Sessions.{session_of}
@@ -34,12 +33,12 @@ use Rattle.conn_machine.proofs.UnitLaws.{UnitLaws}
 -- ---- all that the server answers itself
 
 -- what its replies, its ends without one and complete heads keep
-record Keeps (P : Account → Type 0) (c : Connection) (current : Numbered) : Type 0 where
-  reply : (bound : Numbered) (receipt : Receipt) (asked : Option Request) (reply : Reply) (used : ℕ) (a : Account) → P a → a.state.bound ≡ Some bound
+pub record Keeps (P : Account → Type 0) (c : Connection) (current : Numbered) : Type 0 where
+  pub reply : (bound : Numbered) (receipt : Receipt) (asked : Option Request) (reply : Reply) (used : ℕ) (a : Account) → P a → a.state.bound ≡ Some bound
       → receipt.conf ≡ bound.0 → is_plain_kind receipt.kind ≡ true → P (replied_with c bound receipt asked reply used a)
-  close : (bound : Numbered) (receipt : Receipt) (a : Account) → P a → a.state.bound ≡ Some bound
+  pub close : (bound : Numbered) (receipt : Receipt) (a : Account) → P a → a.state.bound ≡ Some bound
       → receipt.conf ≡ bound.0 → is_plain_kind receipt.kind ≡ true → P (closed_with bound receipt a)
-  head : (a : Account) → P a → P (taken_with current a)
+  pub head : (a : Account) → P a → P (taken_with current a)
 
 module _ (P : Account → Type 0) (c : Connection) (current : Numbered) (keeps : Keeps P c current) where
   own_keeps : (rest : Account → Account) → ((b : Account) → P b → P (rest b)) → (bound : Numbered) (a : Account) → P a → a.state.bound ≡ Some bound
@@ -58,7 +57,7 @@ module _ (P : Account → Type 0) (c : Connection) (current : Numbered) (keeps :
   own_keeps rest next bound a p way finished = p
   own_keeps rest next bound a p way wait = p
 
-  settled_keeps : (n : ℕ) (a : Account) → P a → P (settled c current n a)
+  pub settled_keeps : (n : ℕ) (a : Account) → P a → P (settled c current n a)
   unfolding settled
   settled_keeps zero a p = p
   settled_keeps (suc n) a p = by_closed (λ b q. settled_keeps n b q) a.state.closed
@@ -289,7 +288,7 @@ with_agrees current confs (g ∷ gs) there given =
     let first : has_given confs g = subst (has_given confs) (sym given.0) there in (first, with_agrees current confs gs there given.1)
 
 -- a connection that is to be closed has shown all, and no request is under way
-closes_at : (c : Connection) (s : State) → IsSettled c s → s.given_up ≡ false → need_of c s ≡ Close → (s.out ≡ []) × (s.bound ≡ None)
+pub closes_at : (c : Connection) (s : State) → IsSettled c s → s.given_up ≡ false → need_of c s ≡ Close → (s.out ≡ []) × (s.bound ≡ None)
 closes_at c s settled stays_up need = (none_left s.out second.0, by_closed s.closed refl)
   where
     goes : Need

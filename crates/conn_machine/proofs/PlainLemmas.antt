@@ -19,7 +19,7 @@ use Rattle.conn_machine.specs.Sessions.{Course, Mark, still_open, under_way, clo
 use Rattle.conn_machine.specs.Turns.{replies, ends, when, target_for, kind_turn, turn_of, ends_between}
 use Rattle.conn_machine.proofs.FrontLaws.{IsIdle, unbegun_idle}
 
-abbrev in_course : Course → Option Session
+abbrev pub in_course : Course → Option Session
 in_course course = session_in course.written course.mark
 
 -- a session of this course is that one
@@ -51,7 +51,7 @@ gives_closed (r ∷ rs) session is = absurd (cc is)
 -- ---- an answer
 
 -- the two counts of what is left are the same
-same_close : (q : Request) (left : ℕ) → closes (Some q) (suc left) ≡ (is_last_request q || left == 0)
+pub same_close : (q : Request) (left : ℕ) → closes (Some q) (suc left) ≡ (is_last_request q || left == 0)
 same_close q left = let e : suc left - 1 ≡ left = omega arith in ap (λ n. is_last_request q || n == 0) e
 
 answered_gives : (c : Connection) (conf : Configuration) (q : Request) (close : Bool) (lines : List ℕ) (rs : List Receipt) (rest : Option Course) (other : Session)
@@ -66,7 +66,7 @@ answered_gives c conf q false lines rs rest other gives session is = gives_behin
 abbrev Follow : ℕ → (List ℕ → Option Course) → (List ℕ → Session) → Type 0
 Follow left rest other = (left == 0) ≡ false → (bytes : List ℕ) → Gives (rest bytes) (other bytes)
 
-more_left : (q : Request) (left : ℕ) → (is_last_request q || left == 0) ≡ false → (left == 0) ≡ false
+pub more_left : (q : Request) (left : ℕ) → (is_last_request q || left == 0) ≡ false → (left == 0) ≡ false
 more_left q left is = by (is_last_request q) is
   where
     by : (last : Bool) → (last || left == 0) ≡ false → (left == 0) ≡ false

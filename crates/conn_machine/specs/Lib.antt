@@ -1,6 +1,8 @@
 pub mod Answers
 pub mod Asking
+pub mod Asks
 pub mod Calls
+pub mod Connections
 pub mod Laws
 pub mod One
 pub mod Records

@@ -1,10 +1,12 @@
 //! What holds of every course of a connection. Each function does nothing: its contract is the law.
 ghost use Rattle.std.specs.Prelude.{◌≡◌, ◌≢◌, ◌↔◌, ◌<◌, ◌≤◌, ◌||◌, ◌++◌, ◌∷◌, Bool, true, false, List, [], ℕ, length, take, Option, Some, None, slice_get};
+ghost use Rattle.std.specs.List.{AllByRecursion};
 ghost use Rattle.std.specs.Option.{is_some};
 ghost use Rattle.unit_types.specs.declared.message.Reply.{Reply};
 ghost use Rattle.unit_types.specs.declared.message.Request.{Request};
 ghost use Rattle.serde_json.specs.Data.{Data};
 ghost use Rattle.conf_validate.specs.Configuration.{Configuration, configuration_of};
+ghost use Rattle.conf_validate.specs.Kept.{IsKept};
 ghost use Rattle.conf_validate.specs.Laws.{HasNoChanges};
 ghost use Rattle.conf_validate.specs.Plain.{IsPlain};
 ghost use Rattle.http_front.specs.Front.{head_begun};
@@ -12,6 +14,7 @@ ghost use Rattle.http_front.specs.Message.{Message, request_of};
 ghost use Rattle.http_front.specs.NextUnit.{Found, bad, cut, next_unit, request, wait};
 ghost use Rattle.http_front.specs.Session.{Session, plain_session_of, request_limit};
 ghost use Rattle.http_front.specs.Written.{error_reply};
+ghost use Rattle.request_context.specs.Record.{asked_with};
 ghost use Rattle.request_context.specs.declared.asked.Asked.{Asked};
 ghost use Rattle.route_match.specs.Target.{target_of};
 ghost use Rattle.conn_machine.specs.declared.receipt.Kind.{Kind};
@@ -21,15 +24,19 @@ ghost use Rattle.conn_machine.specs.declared.receipt.Receipt.{Receipt};
 ghost use Rattle.conn_machine.specs.declared.receipt.Why.{Why};
 ghost use Rattle.conn_machine.specs.Answers.{Connection, reply_to};
 ghost use Rattle.conn_machine.specs.Asking.{asked_of, is_app, is_same_asked, timeout_in};
+ghost use Rattle.conn_machine.specs.Asks.{asks_left, asks_of};
 ghost use Rattle.conn_machine.specs.Calls.{Account, IsSound, Reaches, on_answer, on_bytes, on_end, on_gone, opened, wrote};
-ghost use Rattle.conn_machine.specs.Laws.{ArePlain, NeverFall, plain_connection};
+ghost use Rattle.conn_machine.specs.Connections.{Call, HasWritten, MayAllCome, account_behind, bytes_of};
+ghost use Rattle.conn_machine.specs.Laws.{ArePlain, NeverFall, plain_connection, plain_receipts_of};
 ghost use Rattle.conn_machine.specs.One.{IsServedByOne, after_reply};
+ghost use Rattle.conn_machine.specs.Records.{HasShortRecord, rewritten_record_limit};
 ghost use Rattle.conn_machine.specs.Sessions.{course_of, is_under_way, log_lines_of, session_of};
 ghost use Rattle.conn_machine.specs.States.{Agrees, Fits, Follows, GoesOn, IsSettled, Numbered, State, Told, asking_of, counted, is_ask, is_over, need_of, unit_under};
 ghost use Rattle.conn_machine.specs.Steps.{at_end, begin, closed_by, fed, given_up, nothing, replied, shown, taken_up, with_bytes, with_given, with_receipt, with_written};
 ghost use Rattle.conn_machine.specs.Unchanged.{plain_reply_to, unchanged_reply_to};
 ghost use Rattle.conn_machine.specs.Turns.{ends, ends_between, is_why, receipt_of, replies, turn_of};
 
+use crate::records::laws_of_records;
 use conf_validate::{documents_without_changes_change_nothing, plain_documents_change_nothing};
 use http_front::laws_of_units;
 use route_match::plain_documents_need_no_variables;
@@ -138,7 +145,8 @@ pub fn laws_of_turns()
 
 /// The session of a connection: a longer list of configurations changes nothing; the numbers of the configurations never
 /// fall, and there are at most 1,000 receipts. Where the input ended and each request was answered by a handler or by the
-/// server or was cut, under one configuration, it is the session with that configuration's limit and answers.
+/// server or was cut, under one configuration, it is the session with that configuration's limit and answers; and each input
+/// that ended has such receipts, whose kinds what is found and its target say.
 pub fn laws_of_sessions()
     ensures longer { (c : Connection) (confs more : List Configuration) (receipts : List Receipt)
         (bytes : List ℕ) (ended : Bool) (session : Session)
@@ -158,7 +166,14 @@ pub fn laws_of_sessions()
         → slice_get confs number ≡ Some conf → ArePlain number receipts
         → session_of c confs receipts bytes true ≡ Some session → session
         ≡ plain_session_of (plain_connection c conf) true bytes }
-{}
+    ensures answered { (c : Connection) (confs : List Configuration) (conf : Configuration)
+        (number stream : ℕ) (bytes : List ℕ) → slice_get confs number ≡ Some conf → 0 < stream
+        → ArePlain number (plain_receipts_of c conf number stream bytes)
+        × (session_of c confs (plain_receipts_of c conf number stream bytes) bytes true
+        ≡ Some (plain_session_of (plain_connection c conf) true bytes)) }
+{
+    laws_of_units();
+}
 
 /// However a connection is called, its account stays sound: its state follows what came and went, each request that the server
 /// can answer itself is answered, and more requests may come while it is open.
@@ -178,6 +193,21 @@ pub fn laws_of_calls()
         → IsSound c a → Reaches current a → ends_between k ≡ true
         → IsSound c (on_gone current.0 stream k a) }
     ensures wrote { (c : Connection) (a : Account) (n : ℕ) → IsSound c a → IsSound c (wrote n a) }
+{
+    laws_of_units();
+}
+
+/// A whole connection: at the end of any call, what was written is a front of what the session of all bytes given and of its
+/// receipts writes, and all of it where nothing is left to show. So it is of each sound account, and behind any calls an
+/// account is sound.
+pub fn laws_of_connections()
+    ensures written { (c : Connection) (confs : List Configuration) (calls : List Call)
+        → MayAllCome c opened calls → Agrees confs (account_behind c opened calls).told.given
+        → HasWritten c confs (bytes_of calls) (account_behind c opened calls) }
+    ensures sound { (c : Connection) (calls : List Call) → MayAllCome c opened calls
+        → IsSound c (account_behind c opened calls) }
+    ensures account { (c : Connection) (confs : List Configuration) (a : Account) → IsSound c a
+        → Agrees confs a.told.given → HasWritten c confs a.told.bytes a }
 {
     laws_of_units();
 }
@@ -208,6 +238,35 @@ pub fn laws_of_one_configuration()
         → written ≡ (plain_session_of (plain_connection c current.1) true bytes).written }
 {
     laws_of_units();
+}
+
+/// What the handlers are asked on a connection under one configuration, whose whole input came and whose requests are all
+/// answered, is what its bytes ask: in the beginning all of that is left; what is asked is the first of it, and the reply takes
+/// it away; where nothing is asked and nothing is left to show, none of it is left. These are at most 1,000, and under a valid
+/// configuration each can be written as a record of at most 10,350,000 bytes, whatever the stream.
+pub fn laws_of_asks()
+    ensures begins { (c : Connection) (current : Numbered) (bytes : List ℕ)
+        → asks_left c current (on_end c current (on_bytes c current bytes opened))
+        ≡ asks_of c current.1 bytes }
+    ensures asked { (c : Connection) (current bound : Numbered) (bytes written : List ℕ)
+        (a : Account) (asked : List ℕ × Request) (stream : ℕ) (m : Message) (used : ℕ)
+        → IsServedByOne c current bytes written a → asking_of c a.state ≡ Some asked
+        → a.state.bound ≡ Some bound → (unit_under bound.1 a.state).found ≡ request m used
+        → asks_left c current a
+        ≡ asked ∷ asks_left c current (after_reply c current bound a stream m used) }
+    ensures wrote { (c : Connection) (current : Numbered) (a : Account) (n : ℕ)
+        → asks_left c current (wrote n a) ≡ asks_left c current a }
+    ensures closes { (c : Connection) (current : Numbered) (bytes written : List ℕ) (a : Account)
+        → IsServedByOne c current bytes written a → a.state.out ≡ [] → asking_of c a.state ≡ None
+        → asks_left c current a ≡ [] }
+    ensures few { (c : Connection) (conf : Configuration) (bytes : List ℕ)
+        → length (asks_of c conf bytes) ≤ request_limit }
+    ensures short { (c : Connection) (conf : Configuration) (bytes : List ℕ) (stream : ℕ)
+        → IsKept conf → AllByRecursion (λ asked. HasShortRecord rewritten_record_limit
+        (asked_with stream asked.0 asked.1)) (asks_of c conf bytes) }
+{
+    laws_of_units();
+    laws_of_records();
 }
 
 /// The replies of a document whose steps neither rewrite nor change anything are those of a definition that knows neither,

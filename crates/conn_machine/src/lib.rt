@@ -20,7 +20,7 @@ mod tests;
 
 pub use answers::{closes, return_reply};
 pub use laws::{
-    answers_without_changes, laws_of_calls, laws_of_ends, laws_of_one_configuration,
+    answers_without_changes, laws_of_asks, laws_of_calls, laws_of_ends, laws_of_one_configuration,
     laws_of_sessions, laws_of_steps, laws_of_turns,
 };
 pub use machine::Machine;

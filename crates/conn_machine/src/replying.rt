@@ -1,5 +1,5 @@
 //! How a machine takes the reply to the request that waits, and how a call begins and is taken back.
-ghost use Rattle.std.specs.Prelude.{◌≡◌, ◌<◌, ◌≤◌, ℕ, true, false, None, Some, IfOk, OnOk, OnErr, IfSome, option_map};
+ghost use Rattle.std.specs.Prelude.{◌≡◌, ◌<◌, ◌≤◌, ℕ, [], true, false, None, Some, IfOk, OnOk, OnErr, IfSome, option_map};
 ghost use Rattle.std.specs.Option.{is_some};
 ghost use Rattle.conf_validate.specs.Current.{numbered};
 ghost use Rattle.http_front.specs.Session.{request_limit};
@@ -21,10 +21,14 @@ use conf_validate::Current;
 use header_rewrite::fielded_if_changed;
 use http_front::error_reply;
 use std::alloc::{AllocError, Global};
+use std::mem::replace;
 use unit_types::{Bytes, Handlers, Reply};
 
 /// The status of a request that is turned away, or late (RFC 9110, section 15.6.4).
 const UNAVAILABLE: u16 = 503;
+
+/// How many bytes of room a connection keeps for its next answer.
+const KEPT_ROOM: usize = 4096;
 
 /// The reply to a request.
 #[derive(Drop)]
@@ -53,8 +57,8 @@ impl<H: Handlers> Machine<H> {
     {
         self.former = None;
         if self.written == self.out.as_slice().len() {
-            self.out = Bytes::of(Vec::new(alloc));
             self.written = 0;
+            empty(alloc, &mut self.out);
         }
     }
 
@@ -197,5 +201,16 @@ impl<H: Handlers> Machine<H> {
             }
             None => Ok(Answer::Made(error_reply(alloc, UNAVAILABLE)?)),
         }
+    }
+}
+
+// takes all bytes away; where they have little room it stays
+fn empty(alloc: Global, bytes: &mut Bytes)
+    ensures { bytes.new ≡ [] }
+{
+    let mut items = replace(bytes, Bytes::of(Vec::new(alloc))).into_vec();
+    if items.capacity() <= KEPT_ROOM {
+        items.clear();
+        *bytes = Bytes::of(items);
     }
 }

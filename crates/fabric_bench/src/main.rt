@@ -2,6 +2,7 @@
 //! Without words it prints its words.
 #![tactic(auto)]
 
+mod fabric;
 mod maps;
 mod queues;
 mod replies;
@@ -22,6 +23,8 @@ enum Measurement {
     Claim,
     QueueItem,
     SegmentChunk,
+    FabricTurn,
+    FabricClaim,
     ReplyParts,
     ReplyPartsDouble,
     StatusAdd,
@@ -29,12 +32,14 @@ enum Measurement {
 }
 
 /// The word of each measurement.
-const WORDS: [(&str, Measurement); 9] = [
+const WORDS: [(&str, Measurement); 11] = [
     ("ring-alone", Measurement::RingAlone),
     ("ring-shared", Measurement::RingShared),
     ("claim", Measurement::Claim),
     ("queue-item", Measurement::QueueItem),
     ("segment-chunk", Measurement::SegmentChunk),
+    ("fabric-turn", Measurement::FabricTurn),
+    ("fabric-claim", Measurement::FabricClaim),
     ("reply-parts", Measurement::ReplyParts),
     ("reply-parts-double", Measurement::ReplyPartsDouble),
     ("status-add", Measurement::StatusAdd),
@@ -50,6 +55,8 @@ impl Measurement {
             Measurement::Claim => maps::claims(rt),
             Measurement::QueueItem => queues::measure(rt, threads),
             Measurement::SegmentChunk => segments::measure(rt),
+            Measurement::FabricTurn => fabric::measure_turns(rt, threads),
+            Measurement::FabricClaim => fabric::measure_claims(rt),
             Measurement::ReplyParts => replies::measure(rt),
             Measurement::ReplyPartsDouble => replies::measure_double(rt),
             Measurement::StatusAdd => status::measure_adds(rt),

@@ -21,7 +21,7 @@ pub fn claims(rt: &HostRuntime) -> io::Result<()> {
 }
 
 #[derive(Drop)]
-struct ClaimRounds {}
+pub struct ClaimRounds {}
 
 impl Side for ClaimRounds {
     fn run(&self, rt: &HostRuntime) -> io::Result<Timed> {

@@ -36,8 +36,8 @@ pub fn shared<R: Threads + Wait + Sync>(rt: &HostRuntime, threads: &R) -> io::Re
 }
 
 #[derive(Drop)]
-struct RingAlone<'a, R> {
-    threads: &'a R,
+pub struct RingAlone<'a, R> {
+    pub threads: &'a R,
 }
 
 impl<R: Wait> Side for RingAlone<'_, R> {

@@ -1,19 +1,15 @@
 -- An engine abandons a stream that it posted and a worker took.
-use Rattle.std.proofs.Common.{ℕ, ◌≡◌, ◌≢◌, ◌≤◌, inr, false, List, [], ◌∷◌, length, set, refl, sym, ap, ◌∙◌, subst, arith, set-set}
+use Rattle.std.proofs.Common.{ℕ, ◌≡◌, ◌≢◌, false, List, [], ◌∷◌, length, set, refl, sym, ap, ◌∙◌, subst, arith, set-set}
 use Rattle.std.specs.Prelude.{Option}
 use mathlib.Core.Option.{some}
 use lib.ListN.{get_elem?}
 use Rattle.atomic_table.specs.Table.{State}
 use Rattle.atomic_table.proofs.Lists.{set_here}
 use Rattle.app_queue.specs.declared.view.ItemEvent.TheVariants.{Gone}
-use Rattle.app_queue.proofs.ArmFrames.{arms_stay, is_there}
-use Rattle.app_queue.proofs.KnownFrames.{tags_known, words_known}
-use Rattle.app_queue.proofs.RingFrames.{rings_stay}
+use Rattle.app_queue.proofs.ArmFrames.{is_there}
 use Rattle.request_context.specs.declared.piece.Parcel.{Parcel}
 use Rattle.unit_model.specs.Core.{item_of, owner_of, role_of, seat_of}
 use Rattle.unit_model.specs.Effects.{after_step, noted, with_note}
-use Rattle.unit_model.specs.Holding.{items_of}
-use Rattle.unit_model.specs.PartOrder.{Each}
 use Rattle.unit_model.specs.Premises.{MayAbandon}
 use Rattle.unit_model.specs.Running.{Enabled}
 use Rattle.unit_model.specs.StreamCounts.{posted}
@@ -23,14 +19,11 @@ use Rattle.unit_model.specs.declared.machine.Item.{Item}
 use Rattle.unit_model.specs.declared.machine.Note.{Note}
 use Rattle.unit_model.specs.declared.machine.Note.TheVariants.{Abandoned}
 use Rattle.unit_model.specs.declared.machine.Seat.{Seat as SeatLists}
-use Rattle.unit_model.specs.declared.machine.Sides.{Sides}
 use Rattle.unit_model.specs.declared.machine.Step.TheVariants.{Abandon}
 use Rattle.unit_model.specs.declared.shape.Shape.{Shape}
 use Rattle.unit_model.proofs.ListPremises.{was_taken}
 use Rattle.unit_model.proofs.MetSteps.{role_is_there}
 use Rattle.unit_model.proofs.PartOrderOthers.{others_in_order}
-use Rattle.unit_model.proofs.RoleLists.{seats_by_role_stay}
-use Rattle.unit_model.proofs.RoleSteps.{by_role_stays}
 use Rattle.unit_model.proofs.SeatNotes.{Adds, Stays, stays}
 use Rattle.unit_model.proofs.StepFacts.{adds_after_abandon}
 use Rattle.unit_model.proofs.StreamPoints.{armed_inside}
@@ -41,35 +34,34 @@ use Rattle.fabric_words.specs.Offsets.{word_in}
 use Rattle.fabric_words.specs.Places.{HasItem}
 use Rattle.fabric_words.specs.Shown.{IsStep}
 use Rattle.fabric_words.specs.declared.place.Place.{Place}
-use Rattle.fabric_words.specs.declared.place.Place.TheVariants.{Head, Tag}
-use Rattle.fabric_words.specs.declared.place.Side.TheVariants.{FreeSide}
+use Rattle.fabric_words.specs.declared.place.Place.TheVariants.{Tag}
 use Rattle.fabric_words.proofs.EachStep.{made_step}
 use Rattle.fabric_words.proofs.Frames.{item_there}
-use Rattle.fabric_rule.specs.FrameLaws.{NotesOne, StaysUntagged}
-use Rattle.fabric_rule.specs.Parts.{AwaitsReply, IsIdle, IsPosting, IsTrueLedger, KeptAreWorn, KnowsPosted, OpensNoted, RecordsKnown, has_last}
+use Rattle.fabric_rule.specs.FrameLaws.{NotesOne}
+use Rattle.fabric_rule.specs.Parts.{AwaitsReply, IsTrueLedger, KnowsPosted, has_last}
 use Rattle.fabric_rule.specs.Rule.{FabricHolds, NotesAreTrue, ViewsShow}
 use Rattle.fabric_rule.specs.Settling.{AbandonLaw}
 use Rattle.fabric_rule.specs.Steps.{HasLists, IsMachineStep, IsNoStep}
 use Rattle.fabric_rule.specs.Steps.{with_note as main_note}
-use Rattle.fabric_rule.specs.Views.{arms_at, draw_at, got_at, held_at, log_at, logged, open_noted, part_in, part_said, posts_at, queues_in, ring_in, run_in, run_said, tag_in, tag_kept, tag_said}
+use Rattle.fabric_rule.specs.Views.{draw_at, logged}
 use Rattle.fabric_rule.specs.declared.event.FabricEvent.TheVariants.{AtItem}
-use Rattle.fabric_rule.specs.declared.event.Segments.TheVariants.{Out, Back}
 use Rattle.fabric_rule.specs.declared.view.Ledger.{Ledger}
 use Rattle.fabric_rule.specs.declared.view.FabricView.{FabricView}
-use Rattle.fabric_rule.specs.declared.view.Posting.{Posting}
 use Rattle.fabric_rule.specs.declared.view.Work.{Work}
 use Rattle.fabric_rule.specs.declared.view.Work.TheVariants.{Holding}
 use Rattle.fabric_rule.specs.declared.view.Work.TheVariants.{Posted as PostedWork}
 use Rattle.fabric_rule.proofs.ArmSteps.{has_not_of_times, has_of_times}
 use Rattle.fabric_rule.proofs.CancelSteps.{has_draw, knows_posted, only_poster, popped_is, poster_engine, poster_lists, some_stream, tag_is_item}
-use Rattle.fabric_rule.proofs.Contents.{filled_stay, kept_stay, kept_untagged}
-use Rattle.fabric_rule.proofs.Frames.{chunks_stay, items_stay, of_each, of_fabric}
+use Rattle.fabric_rule.proofs.Contents.{filled_stay}
+use Rattle.fabric_rule.proofs.Frames.{chunks_stay, items_stay, opens_stay}
+use Rattle.fabric_rule.proofs.ItemNotes.{all_still, heads_still, items_noted, rings_kept}
 use Rattle.fabric_rule.proofs.ItemLooks.{look_at_item}
-use Rattle.fabric_rule.proofs.ListFrames.{counted_stay, lists_there, streams_stay}
+use Rattle.fabric_rule.proofs.Ledgers.{own_ledger}
 use Rattle.fabric_rule.proofs.Noting.{lists_noted, noted_here}
-use Rattle.fabric_rule.proofs.OwnViews.{awaits_end, own_ledger, works_end}
+use Rattle.fabric_rule.proofs.OwnViews.{awaits_end, works_end}
 use Rattle.fabric_rule.proofs.SettleSteps.{IsNoted, counts_more}
-use Rattle.fabric_rule.proofs.Sums.{each_gives, sum_stays}
+use Rattle.fabric_rule.proofs.RuleSteps.{step_made}
+use Rattle.fabric_rule.proofs.Staying.{LeavesStreams, views_stay}
 
 -- ---- what Abandon leaves of a core
 
@@ -167,86 +159,42 @@ module _ {H : Type 0} (reply_of : List ℕ → Request → Reply) (shape : Shape
 
   notes' : NotesAreTrue shape word (set s.views id u)
   notes' =
-      let old = holds.notes in
-      record {
-        rings = rings_stay FabricView log_at (queues_in shape) (ring_in word) (ring_in word) s.views id v u at (λ q lt side. record { head = refl; tail = refl; entries = λ j below_n. refl }) (λ q side. refl) old.rings;
-        tags = tags_known FabricView tag_said held_at (queues_in shape) (tag_in word) (tag_in word) s.views id v u at (λ q lt i below_n. refl) (λ q i mine. (mine, λ x told. told)) old.tags;
-        kept_tags = words_known FabricView (tag_kept shape) held_at (queues_in shape) (tag_in word) (tag_in word) s.views id v u at (λ q lt i below_n. refl) (λ q i mine. (mine, λ x told. (told.0, told.1))) old.kept_tags;
-        runs = words_known FabricView run_said held_at (queues_in shape) (run_in word) (run_in word) s.views id v u at (λ q lt i below_n. refl) (λ q i mine. (mine, λ x told. told)) old.runs;
-        parts = words_known FabricView part_said held_at (queues_in shape) (part_in word) (part_in word) s.views id v u at (λ q lt i below_n. refl) (λ q i mine. (mine, λ x told. told)) old.parts;
-        arms = λ q lt. arms_stay FabricView (got_at q) (arms_at q) (held_at q) (items_of shape q) (word (Head q FreeSide)) (word (Head q FreeSide)) (tag_in word q) (tag_in word q) (run_in word q) (run_in word q) (part_in word q) (part_in word q) s.views id v u at
-            (omega arith) (λ i below_n. inr (refl, refl, refl)) refl
-            (λ i mine p got. (mine, (got.0, got.1))) (old.arms q lt);
-      }
+      items_noted shape word word (all_still shape word) (heads_still shape word) s.views id v at u.ledgers u.works v.chunks v.items v.kept v.log (λ q i mine. mine) (λ q i p got. got) (λ q. refl)
+      (rings_kept shape word s.views id v u at (λ q side. refl) holds.notes.rings) holds.notes
 
   ended : AwaitsReply (seat_of core' v.seat) stream → ⊥
   ended awaits =
       let now : seat_of core' v.seat ≡ noted note (seat_of core v.seat) = noted_here core core' v.seat note notes_one in
       absurd (omega (arith, awaits.unabandoned, ap (λ (l : SeatLists). times stream l.abandoned) now, weigh_push (is_number stream) (seat_of core v.seat).abandoned stream, is_number_same stream))
 
-  opens_same : (y : FabricView) → OpensNoted core y → OpensNoted core' y
-  opens_same y old =
-      let is : core'.opened ≡ core.opened = abandoned_opened core v.seat stream in
-      record {
-        out = subst (λ (o : Sides). open_noted Out y ≤ o.out) (sym is) old.out;
-        back = subst (λ (o : Sides). open_noted Back y ≤ o.back) (sym is) old.back;
-      }
-
-  postings : (y : FabricView) → RecordsKnown core holds.records y → RecordsKnown core' holds.records y
-  postings y old = each_gives (IsPosting core holds.records) (IsPosting core' holds.records) y.records (λ (p : Posting) is. record { same = is.same; was = omega (arith, is.was, same_posted.all p.stream) }) old
-
   views' : ViewsShow shape word holds.popped holds.armed holds.records core' (set s.views id u)
   views' =
       let old = holds.views in
       let item_same : (q i : ℕ) → item_of core' q i ≡ item_of core q i = abandoned_item core v.seat stream in
       let draws_v : (key : ℕ) → draw_at key v ≡ is_number key stream = has_draw reply_of shape s holds id v c at item stream main in
-      let untagged : (y : FabricView) → Each (StaysUntagged core core') y.kept = kept_untagged core core' (λ q i none. ap (λ (x : Item). x.tag) (item_same q i) ∙ none) in
-      record {
-        there = of_fabric core core' s.views id v u at same refl refl old.there;
+      let leaves : LeavesStreams core core' = record { shape = same; posts = same_posted.all; items = λ q i. record { last = ap (λ (x : Item). x.stream) (item_same q i); untagged = λ none. ap (λ (x : Item). x.tag) (item_same q i) ∙ none } } in
+      views_stay shape word word holds.popped holds.armed holds.popped holds.armed holds.records core core' leaves s.views id v u at (record { shape = refl; number = refl; arms = refl; records = refl; kept = refl }) (λ q lt. omega arith)
+      (record {
         items = items_stay core core' s.views id v u at same (λ q i lt. ap (λ (x : Item). x.whereabouts) (item_same q i)) (λ q f. refl) old.items;
         chunks = chunks_stay core core' s.views id v u at same (abandoned_owner core v.seat stream) (λ f. refl) old.chunks;
-        opens = of_each (OpensNoted core) (OpensNoted core') s.views id u (record { out = (opens_same v (old.opens id v at)).out; back = (opens_same v (old.opens id v at)).back }) opens_same old.opens;
-        posts = λ key. sum_stays (posts_at key) s.views id v u at refl ∙ old.posts key ∙ sym (same_posted.all key);
-        streams = streams_stay core core' s.views id v u at same (λ q i. ap (λ (x : Item). x.stream) (item_same q i)) refl old.streams;
-        records_known = of_each (RecordsKnown core holds.records) (RecordsKnown core' holds.records) s.views id u (postings v (old.records_known id v at)) postings old.records_known;
+        opens = opens_stay core core' s.views id v u at (abandoned_opened core v.seat stream) refl refl old.opens;
         lists = lists_noted core core' note holds.popped holds.popped s.views id v u c c' at notes_one main.main.only main.main.number refl refl refl refl
             (popped_is reply_of shape s holds id v c at item stream main) (λ k ne. refl) old.lists;
-        lists_there = lists_there core core' s.views id v u at same (λ k. sym (ap (weigh (λ (d : Ledger). is_number k d.seat)) main.main.only)) old.lists_there;
+        numbers = λ k. sym (ap (weigh (λ (d : Ledger). is_number k d.seat)) main.main.only);
         works = works_end core core' holds.armed s.views id v u at stream note notes_one refl draws_v (λ key. refl) (λ key. refl) (poster_lists reply_of shape s holds id v c at item stream main) old.works;
-        counted = counted_stay s.views id v u at (counts_more v u c c' note (Holding ∷ []) ledger refl refl refl) old.counted;
-        idle = of_each (IsIdle shape) (IsIdle shape) s.views id u (λ spent. absurd (cc spent)) (λ y is. is) old.idle;
+        counted = counts_more v u c c' note (Holding ∷ []) ledger refl refl refl;
+        idle = λ spent. absurd (cc spent);
         in_work = awaits_end core core' holds.armed s.views id v u at stream note notes_one refl draws_v (λ key. refl) (λ key. refl) ended (only_poster reply_of shape s holds id v c at item stream main) (λ k. same_posted.each k stream) old.in_work;
-        kept = of_each (KeptAreWorn core (ring_in word)) (KeptAreWorn core' (ring_in word)) s.views id u
-            (kept_stay core core' (ring_in word) (ring_in word) v u same (λ q lt. omega arith) (untagged v) refl (old.kept id v at)) (λ y. kept_stay core core' (ring_in word) (ring_in word) y y same (λ q lt. omega arith) (untagged y) refl) old.kept;
-      }
+      })
+      old
 
   pub abandons : IsMachineStep reply_of shape s holds (Abandon v.seat stream) (record s { views = set s.views id u })
   abandons =
       let item_same : (q i : ℕ) → item_of core' q i ≡ item_of core q i = abandoned_item core v.seat stream in
-      record {
-        enabled = link.enabled;
-        after = record {
-          wide = holds.wide;
-          core = core';
-          popped = holds.popped;
-          armed = holds.armed;
-          records = holds.records;
-          shaped = same ∙ holds.shaped;
-          keeps = record {
-            sound = link.sound;
-            items = by_role_stays core (Abandon v.seat stream) holds.keeps.sound holds.keeps.items link.enabled;
-            seats = seats_by_role_stay core (Abandon v.seat stream) holds.keeps.seats link.enabled;
-            order = others_in_order holds.popped holds.armed core (Abandon v.seat stream) holds.keeps.sound holds.keeps.order tt link.enabled;
-          };
-          shows = link.shows;
-          notes = notes';
-          views = views';
-          free = holds.free;
-          filled = filled_stay H reply_of holds.records holds.records core core' s.homes s.homes same
-              (λ q i has armed. (ap (λ (x : Item). x.tag) (item_same q i), ap (λ (x : Item). x.run) (item_same q i), ap (λ (x : Item). x.part) (item_same q i), refl, λ chunk in_run. refl)) holds.filled;
-        };
-        is = refl;
-      }
+      step_made reply_of shape s holds (Abandon v.seat stream) s.words s.homes (set s.views id u) holds.popped holds.armed holds.wide link (same ∙ holds.shaped)
+      (others_in_order holds.popped holds.armed core (Abandon v.seat stream) holds.keeps.sound holds.keeps.order tt link.enabled) notes' views' holds.free
+      (filled_stay H reply_of holds.records holds.records core core' s.homes s.homes same
+      (λ q i has armed. (ap (λ (x : Item). x.tag) (item_same q i), ap (λ (x : Item). x.run) (item_same q i), ap (λ (x : Item). x.part) (item_same q i), refl, λ chunk in_run. refl)) holds.filled)
 
 -- ---- the law: the tag is noted, and then the lists
 

@@ -10,9 +10,6 @@ use Rattle.nncq_ring.specs.Words.{Words}
 use Rattle.nncq_ring.specs.declared.view.RingEvent.TheVariants.{SawTail}
 use Rattle.nncq_ring.proofs.RingParts.{note_at}
 use Rattle.app_queue.specs.declared.side.Side.TheVariants.{Free}
-use Rattle.app_queue.proofs.ArmFrames.{arms_stay}
-use Rattle.app_queue.proofs.KnownFrames.{tags_known, words_known}
-use Rattle.app_queue.proofs.RingFrames.{rings_stay}
 use Rattle.request_context.specs.declared.piece.Parcel.{Parcel}
 use Rattle.unit_model.specs.Core.{role_of, seat_of}
 use Rattle.unit_model.specs.Holding.{items_of}
@@ -33,8 +30,7 @@ use Rattle.unit_types.specs.declared.message.Request.{Request}
 use Rattle.fabric_words.specs.Offsets.{word_in}
 use Rattle.fabric_words.specs.Places.{queues_of}
 use Rattle.fabric_words.specs.declared.place.Place.{Place}
-use Rattle.fabric_words.specs.declared.place.Place.TheVariants.{Head, Tag}
-use Rattle.fabric_words.specs.declared.place.Side.TheVariants.{FreeSide}
+use Rattle.fabric_words.specs.declared.place.Place.TheVariants.{Tag}
 use Rattle.fabric_rule.specs.FrameLaws.{SameLists}
 use Rattle.fabric_rule.specs.Hands.{items_elsewhere}
 use Rattle.fabric_rule.specs.Keyed.{Keyed}
@@ -42,7 +38,7 @@ use Rattle.fabric_rule.specs.Parts.{AwaitsReply, IsCauseOf, IsIdle, IsRefused, I
 use Rattle.fabric_rule.specs.Rule.{FabricHolds, NotesAreTrue, ViewsShow}
 use Rattle.fabric_rule.specs.Seats.{Account, AccountLaw, MayAccount, MayEnd, MayKeep, accounted, kept_by}
 use Rattle.fabric_rule.specs.Steps.{IsNoStep}
-use Rattle.fabric_rule.specs.Views.{arms_at, chunks_at, draw_at, draw_weight, got_at, hand_at, held_at, is_got, lists_at, log_at, opens_at, part_in, part_said, queues_in, ring_in, run_in, run_said, tag_in, tag_kept, tag_said, take_weight, works_at}
+use Rattle.fabric_rule.specs.Views.{chunks_at, draw_at, draw_weight, hand_at, held_at, is_got, lists_at, log_at, opens_at, ring_in, take_weight, works_at}
 use Rattle.fabric_rule.specs.declared.cause.Refusal.{Refusal}
 use Rattle.fabric_rule.specs.declared.view.FabricView.{FabricView}
 use Rattle.fabric_rule.specs.declared.view.HeldItem.{HeldItem}
@@ -54,9 +50,11 @@ use Rattle.fabric_rule.proofs.ArmLists.{each_append}
 use Rattle.fabric_rule.proofs.Frames.{of_each, of_fabric}
 use Rattle.fabric_rule.proofs.Hands.{hands_owned}
 use Rattle.fabric_rule.proofs.KeyedSteps.{each_zero, keyed_step}
-use Rattle.fabric_rule.proofs.ListFrames.{lists_there, posts_stay, streams_stay}
+use Rattle.fabric_rule.proofs.ListFrames.{lists_there, posts_stay, streams_stay, records_there}
+use Rattle.fabric_rule.proofs.RuleSteps.{views_change}
 use Rattle.fabric_rule.proofs.Sharing.{shared_long, shared_one, shared_other, shared_weighs}
 use Rattle.fabric_rule.proofs.Sums.{each_gives, sum_stays}
+use Rattle.fabric_rule.proofs.ItemNotes.{all_still, heads_still, items_noted, rings_kept}
 
 -- works that hold chunks or an item have no stream
 pub holding_none : (f : Work → ℕ) → f Holding ≡ 0 → (n : ℕ) → weigh f (replicate n Holding) ≡ 0
@@ -298,21 +296,10 @@ module _ {H : Type 0} (reply_of : List ℕ → Request → Reply) (shape : Shape
   now_holds : (q i : ℕ) → Holds (held_at q) i u → Holds (held_at q) i v
   now_holds q i mine = omega (arith, mine, held_sum q (is_number i))
 
-  now_got : (q i p : ℕ) → got_at q u i p → got_at q v i p
-  now_got q i p got = (omega (arith, got.0, shared_weighs (is_got q i p) v.items a.items a.gone may.items), got.1)
-
   notes' : NotesAreTrue shape word (set s.views id u)
   notes' =
-      let old = holds.notes in
-      record {
-        rings = rings_stay FabricView log_at (queues_in shape) (ring_in word) (ring_in word) s.views id v u at (λ q lt side. record { head = refl; tail = refl; entries = λ j below_n. refl }) (λ q side. refl) old.rings;
-        tags = tags_known FabricView tag_said held_at (queues_in shape) (tag_in word) (tag_in word) s.views id v u at (λ q lt i below_n. refl) (λ q i mine. (now_holds q i mine, λ x told. told)) old.tags;
-        kept_tags = words_known FabricView (tag_kept shape) held_at (queues_in shape) (tag_in word) (tag_in word) s.views id v u at (λ q lt i below_n. refl) (λ q i mine. (now_holds q i mine, λ x told. told)) old.kept_tags;
-        runs = words_known FabricView run_said held_at (queues_in shape) (run_in word) (run_in word) s.views id v u at (λ q lt i below_n. refl) (λ q i mine. (now_holds q i mine, λ x told. told)) old.runs;
-        parts = words_known FabricView part_said held_at (queues_in shape) (part_in word) (part_in word) s.views id v u at (λ q lt i below_n. refl) (λ q i mine. (now_holds q i mine, λ x told. told)) old.parts;
-        arms = λ q lt. arms_stay FabricView (got_at q) (arms_at q) (held_at q) (items_of shape q) (word (Head q FreeSide)) (word (Head q FreeSide)) (tag_in word q) (tag_in word q) (run_in word q) (run_in word q) (part_in word q) (part_in word q) s.views id v u at
-            (omega arith) (λ i below_n. inr (refl, refl, refl)) refl (λ i mine p got. (now_holds q i mine, now_got q i p got)) (old.arms q lt);
-      }
+      items_noted shape word word (all_still shape word) (heads_still shape word) s.views id v at u.ledgers u.works v.chunks u.items u.kept v.log now_holds (λ q i p got. omega (arith, got, shared_weighs (is_got q i p) v.items a.items a.gone may.items)) (λ q. refl)
+      (rings_kept shape word s.views id v u at (λ q side. refl) holds.notes.rings) holds.notes
 
   -- ---- what is kept
 
@@ -354,9 +341,10 @@ module _ {H : Type 0} (reply_of : List ℕ → Request → Reply) (shape : Shape
         items = λ q lt f. sum_stays (hand_at q f) s.views id v u at (hand_same q f) ∙ old.items q lt f;
         chunks = λ f. sum_stays (chunks_at f) s.views id v u at refl ∙ old.chunks f;
         opens = of_each (OpensNoted core) (OpensNoted core) s.views id u (record { out = (old.opens id v at).out; back = (old.opens id v at).back }) (λ y is. is) old.opens;
-        posts = posts_stay core core s.views id v u at same refl old.posts;
+        posts = posts_stay core core s.views id v u at (λ k. refl) refl old.posts;
         streams = streams_stay core core s.views id v u at refl (λ q i. refl) refl old.streams;
         records_known = of_each (RecordsKnown core holds.records) (RecordsKnown core holds.records) s.views id u (old.records_known id v at) (λ y is. is) old.records_known;
+        records_there = records_there core core s.views id v u at (λ k. omega arith) (λ k. omega arith) old.records_there;
         lists = lists';
         lists_there = lists_there core core s.views id v u at refl as_many old.lists_there;
         works = record { draws = keyed_works draw_weight (λ key. refl) old.works.draws; takes = keyed_works take_weight (λ key. refl) old.works.takes };
@@ -367,23 +355,7 @@ module _ {H : Type 0} (reply_of : List ℕ → Request → Reply) (shape : Shape
       }
 
   pub accounts : IsNoStep reply_of shape s holds (record s { views = set s.views id u })
-  accounts = record {
-    after = record {
-      wide = holds.wide;
-      core = core;
-      popped = holds.popped;
-      armed = holds.armed;
-      records = holds.records;
-      shaped = holds.shaped;
-      keeps = holds.keeps;
-      shows = holds.shows;
-      notes = notes';
-      views = shown;
-      free = holds.free;
-      filled = holds.filled;
-    };
-    is = refl;
-  }
+  accounts = views_change reply_of shape s holds (set s.views id u) notes' shown
 
 pub account : (H : Type 0) → AccountLaw H
 account H reply_of shape s holds id v a c at may = accounts reply_of shape s holds id v a c at may

@@ -2,7 +2,7 @@
 use Rattle.std.proofs.Common.{ℕ, ⊎_elim, ◌+◌, ◌-◌, ◌*◌, ◌≡◌, ◌≢◌, ◌≤◌, ◌<◌, ◌⊎◌, ◌==◌, ◌&&◌, inl, inr, Bool, true, false, cond, if◌then◌else◌, List, [], ◌∷◌, length, set, refl, sym, ap, ◌∙◌, subst, arith, length-set, Some}
 use Rattle.std.specs.Prelude.{Option}
 use Rattle.std.specs.List.{range_with_len}
-use Rattle.std.proofs.lemmas.Bool.{and_right, cases_eq, cases_lt, eq-eqb, ne_eqb}
+use Rattle.std.proofs.lemmas.Bool.{and_right, cases_eq, eq-eqb, ne_eqb}
 use mathlib.Core.Option.{some}
 use lib.ListN.{get_elem?}
 use Rattle.atomic_table.specs.Table.{State, homes_after, stepped}
@@ -34,11 +34,10 @@ use Rattle.unit_model.specs.declared.machine.Core.{Core}
 use Rattle.unit_model.specs.declared.machine.Item.{Item}
 use Rattle.unit_model.specs.declared.machine.Owner.{Owner}
 use Rattle.unit_model.specs.declared.machine.Owner.TheVariants as owner
-use Rattle.unit_model.specs.declared.machine.Sides.{Sides}
 use Rattle.unit_model.specs.declared.runs.Run.{Run}
 use Rattle.unit_model.specs.declared.shape.Shape.{Shape}
 use Rattle.unit_model.proofs.ChangedCore.{set_all_outside}
-use Rattle.unit_model.proofs.ItemChanges.{SetsItem, item_beside, item_elsewhere, item_here}
+use Rattle.unit_model.proofs.ItemChanges.{SetsItem, item_here}
 use Rattle.unit_model.proofs.RoleLists.{seats_by_role_stay}
 use Rattle.unit_model.proofs.RoleSteps.{by_role_stays}
 use Rattle.unit_types.specs.declared.message.Reply.{Reply}
@@ -55,16 +54,15 @@ use Rattle.fabric_words.proofs.Standing.{set_word}
 use Rattle.fabric_rule.specs.Contents.{Carries, CarriesSlots}
 use Rattle.fabric_rule.specs.FrameLaws.{StaysUntagged}
 use Rattle.fabric_rule.specs.Hands.{items_elsewhere}
-use Rattle.fabric_rule.specs.Parts.{ChunksHeld, IsIdle, KeptAreWorn, ListsShown, OpensNoted, PostsArmed, RecordsKnown, WorksShown, owner_weight}
+use Rattle.fabric_rule.specs.Parts.{ChunksHeld, IsIdle, KeptAreWorn, ListsShown, PostsArmed, RecordsKnown, WorksShown, owner_weight, RecordsThere}
 use Rattle.fabric_rule.specs.Passing.{OthersStay, first_of}
 use Rattle.fabric_rule.specs.Rule.{FabricHolds, NotesAreTrue, ViewsShow}
 use Rattle.fabric_rule.specs.Steps.{IsMachineStep}
-use Rattle.fabric_rule.specs.Views.{arms_among, posts_of, arms_at, got_at, held_at, item_log, log_at, open_noted, part_in, part_said, queues_in, ring_in, run_in, run_said, tag_in, tag_kept, tag_said, word_side, words_in}
+use Rattle.fabric_rule.specs.Views.{arms_among, posts_of, arms_at, got_at, held_at, item_log, log_at, part_in, part_said, queues_in, ring_in, run_in, run_said, tag_in, tag_kept, tag_said, word_side, words_in}
 use Rattle.unit_model.proofs.Weights.{below_none, below_same, weigh_range}
 use Rattle.fabric_words.specs.Places.{is_of_ring}
 use Rattle.fabric_rule.specs.Views.{opens_at, works_at}
 use Rattle.fabric_rule.specs.declared.event.FabricEvent.TheVariants.{AtItem}
-use Rattle.fabric_rule.specs.declared.event.Segments.TheVariants.{Out, Back}
 use Rattle.fabric_rule.specs.declared.view.ArmNote.{ArmNote}
 use Rattle.fabric_rule.specs.declared.view.Ledger.{Ledger}
 use Rattle.fabric_rule.specs.declared.view.FabricView.{FabricView}
@@ -72,7 +70,8 @@ use Rattle.fabric_rule.specs.declared.view.Posting.{Posting}
 use Rattle.fabric_rule.specs.declared.view.Work.{Work}
 use Rattle.fabric_rule.proofs.CarriedSlots.{carried_once, mine_of}
 use Rattle.fabric_rule.proofs.Contents.{kept_stay}
-use Rattle.fabric_rule.proofs.Frames.{chunks_move, items_stay, of_each, of_fabric}
+use Rattle.fabric_rule.proofs.Frames.{chunks_move, items_stay, of_each, of_fabric, opens_stay}
+use Rattle.fabric_rule.proofs.Staying.{unchanged}
 use Rattle.fabric_rule.proofs.Hands.{hands_owned, in_hand}
 use Rattle.fabric_rule.proofs.ListFrames.{counted_stay, lists_there}
 use Rattle.fabric_rule.proofs.Passing.{this_or_other}
@@ -92,7 +91,6 @@ use Rattle.unit_model.specs.Holding.{FitsQueue}
 use Rattle.unit_model.specs.Premises.{OwnsRun}
 use Rattle.unit_model.specs.declared.machine.Step.TheVariants.{Arm}
 use Rattle.unit_model.proofs.StepFacts.{sets_after_arm}
-use Rattle.unit_model.proofs.Views.{sum_at}
 use Rattle.fabric_words.specs.Needs.{NeedsArm}
 use Rattle.fabric_words.proofs.ItemSteps.{arm_gives_run}
 use Rattle.fabric_rule.specs.Hands.{IsChunkInHand}
@@ -125,6 +123,7 @@ module _ (core : Core) (seat queue item stream : ℕ) where
 pub record OfLists (popped armed records : ℕ → List ℕ) (core : Core) (v u : FabricView) (views : List FabricView) : Type 0 where
   pub posts : PostsArmed core views
   pub records_known : OfEach (RecordsKnown core records) views
+  pub records_there : RecordsThere core views
   pub lists : ListsShown core popped views
   pub numbers : (number : ℕ) → lists_at number u ≡ lists_at number v
   pub works : WorksShown core armed views
@@ -279,11 +278,7 @@ module _ {H : Type 0} (reply_of : List ℕ → Request → Reply) (shape : Shape
   shape' = shape_same ∙ holds.shaped
 
   others : OthersStay core core' queue item
-  others q i apart =
-      elim (cases_eq q queue) [
-        | inl is ↦ ⊎_elim (λ ne. absurd (ne is)) (λ ne. subst (λ (r : ℕ). item_of core' r i ≡ item_of core r i) (sym is) (item_beside core core' queue item now changed i ne)) apart
-        | inr ne ↦ item_elsewhere core core' queue item now changed q i ne
-      ]
+  others = unchanged core core' queue item now changed
 
   here : item_of core' queue item ≡ now
   here = item_here core core' queue item now changed
@@ -450,14 +445,6 @@ module _ {H : Type 0} (reply_of : List ℕ → Request → Reply) (shape : Shape
       (λ f. omega (arith, was f, is f, parted (f v.seat), ap (weigh (f v.seat)) numbers_are))
       holds.views.chunks
 
-  opens_same : (y : FabricView) → OpensNoted core y → OpensNoted core' y
-  opens_same y old =
-      let is : core'.opened ≡ core.opened = armed_opened core v.seat queue item stream in
-      record {
-        out = subst (λ (o : Sides). open_noted Out y ≤ o.out) (sym is) old.out;
-        back = subst (λ (o : Sides). open_noted Back y ≤ o.back) (sym is) old.back;
-      }
-
   streams' : StreamsLatest core' (set s.views id u)
   streams' = streams_arm core core' s.views id v u note at shape_same refl
       (arms_before s.views queue item place fresh.above) (ap (λ (x : Item). x.stream) here) (λ q i other. ap (λ (x : Item). x.stream) (others q i other)) holds.views.streams
@@ -483,10 +470,11 @@ module _ {H : Type 0} (reply_of : List ℕ → Request → Reply) (shape : Shape
         there = of_fabric core core' s.views id v u at shape_same refl refl old.there;
         items = items_stay core core' s.views id v u at shape_same (λ q i lt. same_place q i) (λ q f. refl) old.items;
         chunks = chunks';
-        opens = of_each (OpensNoted core) (OpensNoted core') s.views id u (record { out = (opens_same v (old.opens id v at)).out; back = (opens_same v (old.opens id v at)).back }) opens_same old.opens;
+        opens = opens_stay core core' s.views id v u at (armed_opened core v.seat queue item stream) refl refl old.opens;
         posts = says.posts;
         streams = streams';
         records_known = says.records_known;
+        records_there = says.records_there;
         lists = says.lists;
         lists_there = lists_there core core' s.views id v u at shape_same says.numbers old.lists_there;
         works = says.works;

@@ -48,6 +48,7 @@ use Rattle.fabric_rule.specs.declared.view.FabricView.{FabricView}
 use Rattle.fabric_rule.specs.declared.view.Posting.{Posting}
 use Rattle.fabric_rule.specs.declared.view.Work.{Work}
 use Rattle.fabric_rule.specs.declared.view.Work.TheVariants.{Drawn as DrawnWork, Posted as PostedWork, Taken as TakenWork, Sending, Holding}
+use Rattle.fabric_rule.proofs.Ledgers.{own_popped}
 use Rattle.fabric_rule.proofs.Frames.{of_each}
 use Rattle.fabric_rule.proofs.KeyedSteps.{keyed_step}
 use Rattle.fabric_rule.proofs.Noting.{lists_noted, noted_here, work_noted, work_stream}
@@ -66,11 +67,12 @@ use Rattle.unit_model.proofs.StepFacts.{adds_after_arm}
 use Rattle.unit_model.proofs.StreamSteps.{drawn_at_most_once, drawn_some}
 use Rattle.unit_model.proofs.Views.{sum_at}
 use Rattle.fabric_rule.specs.Contents.{IsRecordOf}
-use Rattle.fabric_rule.specs.Parts.{IsTrueLedger, KnowsDrawn, KnowsPosted, PostsInWork}
+use Rattle.fabric_rule.specs.Parts.{KnowsDrawn, KnowsPosted, PostsInWork}
 use Rattle.fabric_rule.specs.Steps.{ArmLineLaw, RequestGoes, slots_left, with_posted}
-use Rattle.fabric_rule.specs.Views.{lists_at, posts_of}
+use Rattle.fabric_rule.specs.Views.{posts_of}
 use Rattle.fabric_rule.proofs.ArmParts.{OfLists, arms_it, carries_now, go, link, recorded, shape_same}
 use Rattle.fabric_rule.proofs.Noting.{said_as}
+use Rattle.fabric_rule.proofs.ListFrames.{records_there}
 
 -- ---- streams
 
@@ -241,14 +243,6 @@ module _ {H : Type 0} (reply_of : List ℕ → Request → Reply) (shape : Shape
         arm = omega (arith, posts_one);
       })
 
-  own_ledger : IsTrueLedger core holds.popped c
-  own_ledger =
-      let once : 1 ≤ lists_at c.seat v = omega (arith, ap (weigh (λ (d : Ledger). is_number c.seat d.seat)) main.main.only, is_number_same c.seat) in
-      (subst (λ (cs : List Ledger). Each (λ (d : Ledger). d.seat ≡ c.seat → IsTrueLedger core holds.popped d) cs) main.main.only (holds.views.lists.each c.seat id v at once)).0 refl
-
-  popped_is : holds.popped v.seat ≡ c.popped
-  popped_is = sym (ap holds.popped main.main.number) ∙ own_ledger.popped_item (ap (role_of core) main.main.number ∙ role)
-
   -- ---- works
 
   by_role : SeatByRole 0 (seat_of core v.seat)
@@ -319,8 +313,9 @@ module _ {H : Type 0} (reply_of : List ℕ → Request → Reply) (shape : Shape
         posts = λ key. omega (arith, old.posts key, grow.all key, sum_set (posts_at key) s.views id v u at);
         records_known = of_each (RecordsKnown core holds.records) (RecordsKnown core' records') s.views id u
             (record { same = record_is; was = omega (arith, grow.all stream, is_number_same stream) }, postings v.records (old.records_known id v at)) (λ y. postings y.records) old.records_known;
+        records_there = records_there core core' s.views id v u at (λ k. omega (arith, grow.all k)) (λ k. omega arith) old.records_there;
         lists = lists_noted core core' (Posted stream) holds.popped holds.popped s.views id v u c (main_note (Posted stream) 0 c) at notes_one main.main.only main.main.number refl refl refl refl
-            (λ is_engine. popped_is) (λ k ne. refl) old.lists;
+            (λ is_engine. own_popped core holds.popped s.views id v c at main.main role old.lists) (λ k ne. refl) old.lists;
         numbers = λ k. sym (ap (weigh (λ (d : Ledger). is_number k d.seat)) main.main.only);
         works = works';
         counted = counts_same;

@@ -179,6 +179,7 @@ module _ (shape : Shape) (words : List ℕ) (valid : IsValid shape) (wide : widt
     posts = λ stream. sym (none_posted shape stream);
     streams = λ q i there. ap (λ (it : Item). it.stream) (item_there shape q i there.in_queues);
     records_known = λ k v at. subst (λ (y : FabricView). RecordsKnown core nothing y) (only_view first v k at) tt;
+    records_there = λ stream was. absurd (omega (arith, was, none_posted shape stream));
     lists = record {
       once = λ key. omega (arith, at_most_once key);
       each = λ key k v at has. subst (λ (y : FabricView). ShowsLists core nothing key y) (only_view first v k at)

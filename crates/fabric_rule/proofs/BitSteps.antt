@@ -17,7 +17,6 @@ use Rattle.unit_model.specs.Shapes.{role_in, side_start_in}
 use Rattle.unit_model.specs.declared.machine.Core.{Core}
 use Rattle.unit_model.specs.declared.machine.Owner.{Owner}
 use Rattle.unit_model.specs.declared.machine.Owner.TheVariants.{Free as Unowned, Seat as OfSeat, Message as OfMessage}
-use Rattle.unit_model.specs.declared.machine.Sides.{Sides}
 use Rattle.unit_model.specs.declared.machine.Step.{Step}
 use Rattle.unit_model.specs.declared.machine.Step.TheVariants.{Claim, Release}
 use Rattle.unit_model.specs.declared.shape.Shape.{Shape}
@@ -43,8 +42,10 @@ use Rattle.fabric_rule.specs.declared.event.FabricEvent.TheVariants.{AtMap}
 use Rattle.fabric_rule.specs.declared.event.Segments.{Segments}
 use Rattle.fabric_rule.specs.declared.event.Segments.TheVariants.{Out, Back}
 use Rattle.fabric_rule.specs.declared.view.FabricView.{FabricView}
-use Rattle.fabric_rule.proofs.Beside.{IsWhereItWas, keeps_beside, notes_beside, rings_beside, tails_same, views_beside}
-use Rattle.fabric_rule.proofs.Frames.{chunks_move, of_each}
+use Rattle.fabric_rule.proofs.Beside.{IsWhereItWas, notes_beside, rings_beside, tails_same, views_beside}
+use Rattle.fabric_rule.proofs.RuleSteps.{step_made}
+use Rattle.fabric_rule.proofs.Frames.{chunks_move, opens_stay}
+use Rattle.unit_model.proofs.PartOrderOthers.{others_in_order}
 
 -- ---- chunks by their numbers
 
@@ -192,43 +193,18 @@ module _ {H : Type 0} (reply_of : List ℕ → Request → Reply) (shape : Shape
     abbrev u : FabricView
     u = record v { chunks = chunks; log = AtMap segments e ∷ v.log }
 
-    opens_same : (y : FabricView) → OpensNoted core y → OpensNoted core' y
-    opens_same y old = record {
-      out = subst (λ (o : Sides). open_noted Out y ≤ o.out) (sym opened) old.out;
-      back = subst (λ (o : Sides). open_noted Back y ≤ o.back) (sym opened) old.back;
-    }
-
-    opens_mine : OpensNoted core' u
-    opens_mine =
-        let old : OpensNoted core' v = opens_same v (holds.views.opens id v at) in
-        record {
-          out = omega (arith, old.out, noted_same e quiet segments Out v.log);
-          back = omega (arith, old.back, noted_same e quiet segments Back v.log);
-        }
-
     pub bit_made : (homes' : List (mathlib.Core.Option.Option (Option (Parcel H)))) → ChunksHeld core' (set s.views id u) → (v.works ≡ [] → chunks ≡ []) → FreeSlots (segment_chunks * segments_of shape) (map_of word') homes' → ArmedFilled reply_of holds.records core' homes'
         → IsMachineStep reply_of shape s holds step (record { words = set s.words (offset_of shape place) x; homes = homes'; views = set s.views id u })
-    bit_made homes' chunks' idle free filled = record {
-      enabled = link.enabled;
-      after = record {
-        wide = omega (arith, holds.wide, length-set s.words (offset_of shape place) x);
-        core = core';
-        popped = holds.popped;
-        armed = holds.armed;
-        records = holds.records;
-        shaped = same.shape ∙ holds.shaped;
-        keeps = keeps_beside holds.popped holds.armed core step other_step link.enabled link.sound holds.keeps;
-        shows = link.shows;
-        notes = notes_beside shape word word' place x sets refl (λ q side. refl) s.views id v at v.ledgers v.works chunks (AtMap segments e) (λ q side. refl) (λ q. refl) holds.notes;
-        views = views_beside shape word word' holds.popped holds.armed holds.records core core' s.views id v at chunks (AtMap segments e) same
-            (λ q i. subst (IsWhereItWas (item_of core q i)) (sym (items q i)) (record { tag = refl; place = refl; last = refl }))
-            (tails_same core shape word word' holds.shaped (rings_beside shape word word' place x sets refl (λ q side. refl))) chunks'
-            (of_each (OpensNoted core) (OpensNoted core') s.views id u opens_mine opens_same holds.views.opens) idle holds.views;
-        free = free;
-        filled = filled;
-      };
-      is = refl;
-    }
+    bit_made homes' chunks' idle free filled =
+        step_made reply_of shape s holds step (set s.words (offset_of shape place) x) homes' (set s.views id u) holds.popped holds.armed
+        (omega (arith, holds.wide, length-set s.words (offset_of shape place) x)) link (same.shape ∙ holds.shaped)
+        (others_in_order holds.popped holds.armed core step holds.keeps.sound holds.keeps.order other_step link.enabled)
+        (notes_beside shape word word' place x sets refl (λ q side. refl) s.views id v at v.ledgers v.works chunks (AtMap segments e) (λ q side. refl) (λ q. refl) holds.notes)
+        (views_beside shape word word' holds.popped holds.armed holds.records core core' s.views id v at chunks (AtMap segments e) same
+        (λ q i. subst (IsWhereItWas (item_of core q i)) (sym (items q i)) (record { tag = refl; place = refl; last = refl }))
+        (tails_same core shape word word' holds.shaped (rings_beside shape word word' place x sets refl (λ q side. refl))) chunks'
+        (opens_stay core core' s.views id v u at opened (noted_same e quiet segments Out v.log) (noted_same e quiet segments Back v.log) holds.views.opens) idle holds.views)
+        free filled
 
     -- one chunk changes its owner, and weighs as much more or less with the seat
     pub one_moves : ((other : ℕ) → other ≢ number → owner_of core' other ≡ owner_of core other) → ((f : ℕ → ℕ → ℕ) → chunks_at f u + owner_weight f (owner_of core number) number ≡ chunks_at f v + owner_weight f (owner_of core' number) number) → ChunksHeld core' (set s.views id u)

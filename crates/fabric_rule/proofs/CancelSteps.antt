@@ -51,7 +51,8 @@ use Rattle.fabric_rule.specs.declared.view.Work.{Work}
 use Rattle.fabric_rule.specs.declared.view.Work.TheVariants.{Holding, Posted}
 use Rattle.fabric_rule.proofs.Accounting.{holding_none}
 use Rattle.fabric_rule.proofs.ArmSteps.{has_of_times}
-use Rattle.fabric_rule.proofs.OwnViews.{awaits_end, has_posts, one_arm, own_arm, own_ledger, works_end}
+use Rattle.fabric_rule.proofs.OwnViews.{awaits_end, has_posts, one_arm, own_arm, works_end}
+use Rattle.fabric_rule.proofs.Ledgers.{own_ledger, own_popped}
 use Rattle.fabric_rule.proofs.Noting.{noted_here}
 use Rattle.fabric_rule.proofs.Passing.{this_or_other}
 use Rattle.fabric_rule.proofs.SettleSteps.{IsNoted, comes, contents, enabled, kept_else, notes_one, parcels, postings, said_zero, same_posted, was_kept, zero_here}
@@ -110,9 +111,7 @@ module _ {H : Type 0} (reply_of : List ℕ → Request → Reply) (shape : Shape
       sym (standing_arm i there is arm.1 (id, v, at, arm.0, arm.2) arm.3).0 ∙ arm.4
 
   pub popped_is : role_of core v.seat ≡ 0 → holds.popped v.seat ≡ c.popped
-  popped_is engine =
-      let ledger : IsTrueLedger core holds.popped c = own_ledger core holds.popped s.views id v c at main.main.only holds.views.lists in
-      sym (ap holds.popped main.main.number) ∙ ledger.popped_item (ap (role_of core) main.main.number ∙ engine)
+  popped_is engine = own_popped core holds.popped s.views id v c at main.main engine holds.views.lists
 
 -- ---- the step
 
@@ -233,7 +232,7 @@ module _ {H : Type 0} (reply_of : List ℕ → Request → Reply) (shape : Shape
             (others_in_order holds.popped holds.armed old_core (Settle v.seat 0 item stream) holds.keeps.sound holds.keeps.order refl (enabled reply_of shape s holds id v carried at 0 item stream run_word there tag nonzero run_word_is may note note_is (λ l. refl)))
             kept_tags'
             (works_end old_core new_core holds.armed s.views id v u at stream note one refl draws_v draws_u takes_u (poster_lists reply_of shape s holds id v c at item stream main) holds.views.works)
-            (postings reply_of shape s holds id v carried at 0 item stream run_word there tag nonzero run_word_is may note note_is (λ l. refl) v (holds.views.records_known id v at))
+            (postings reply_of shape s holds id v carried at 0 item stream run_word there tag nonzero run_word_is may note note_is (λ l. refl) v (holds.views.records_known id v at)) (λ k. omega arith)
             (awaits_end old_core new_core holds.armed s.views id v u at stream note one refl draws_v draws_u takes_u ended (only_poster reply_of shape s holds id v c at item stream main)
             (λ k. (same_posted reply_of shape s holds id v carried at 0 item stream run_word there tag nonzero run_word_is may note note_is (λ l. refl)).each k stream) holds.views.in_work);
       }

@@ -9,18 +9,15 @@ use Rattle.port_message.specs.Words.{numbers_of}
 use Rattle.request_context.specs.declared.piece.Parcel.{Parcel}
 use Rattle.unit_model.specs.ByRole.{SeatByRole}
 use Rattle.unit_model.specs.Core.{item_of, role_of, seat_of}
-use Rattle.unit_model.specs.Effects.{after_step, noted, settled_note}
-use Rattle.unit_model.specs.PartCounts.{received}
+use Rattle.unit_model.specs.Effects.{after_step, settled_note}
 use Rattle.unit_model.specs.PartOrder.{Each, IsUnpushed, PartsInOrder, Puts}
 use Rattle.unit_model.specs.Premises.{Closes, IsInHand, MaySettle}
 use Rattle.unit_model.specs.Sharing.{Holds}
-use Rattle.unit_model.specs.StreamCounts.{abandoned, cancelled, posted}
 use Rattle.unit_model.specs.Weights.{weigh, is_number, times}
 use Rattle.unit_model.specs.declared.machine.Core.{Core}
 use Rattle.unit_model.specs.declared.machine.Item.{Item}
 use Rattle.unit_model.specs.declared.machine.Note.{Note}
 use Rattle.unit_model.specs.declared.machine.Note.TheVariants.{Closed}
-use Rattle.unit_model.specs.declared.machine.Seat.{Seat as SeatLists}
 use Rattle.unit_model.specs.declared.machine.Step.TheVariants.{Settle}
 use Rattle.unit_model.specs.declared.shape.Shape.{Shape}
 use Rattle.unit_model.proofs.ListPremises.{holder_sent}
@@ -38,7 +35,7 @@ use Rattle.fabric_words.specs.declared.place.Place.{Place}
 use Rattle.fabric_words.specs.declared.place.Place.TheVariants.{PartWord, RunWord, Tag}
 use Rattle.fabric_rule.specs.Contents.{IsReplyPart}
 use Rattle.fabric_rule.specs.FrameLaws.{NotesOne}
-use Rattle.fabric_rule.specs.Parts.{AwaitsReply, KnowsSending, KnowsWork, PostsInWork, ShowsWorks, WorksShown, has_last}
+use Rattle.fabric_rule.specs.Parts.{KnowsSending, KnowsWork, PostsInWork, ShowsWorks, WorksShown}
 use Rattle.fabric_rule.specs.Rule.{FabricHolds}
 use Rattle.fabric_rule.specs.Settling.{CloseLaw, PartReturns, with_closed}
 use Rattle.fabric_rule.specs.Steps.{HasLists, with_note}
@@ -50,7 +47,7 @@ use Rattle.fabric_rule.specs.declared.view.Work.TheVariants.{Sending, Holding}
 use Rattle.fabric_rule.proofs.Hands.{in_hand}
 use Rattle.fabric_rule.proofs.KeyedSteps.{keyed_step}
 use Rattle.fabric_rule.proofs.Noting.{work_noted, work_stream}
-use Rattle.fabric_rule.proofs.OwnViews.{same_field}
+use Rattle.fabric_rule.proofs.Noting.{awaited}
 use Rattle.fabric_rule.proofs.ReceiveSteps.{part_of_reply}
 use Rattle.fabric_rule.proofs.Rearming.{armed_now, drawn_rearmed, puts_now}
 use Rattle.fabric_rule.proofs.SettleSteps.{IsNoted, comes, contents, kept_by_holder, notes_one, parcels, postings}
@@ -175,18 +172,9 @@ module _ {H : Type 0} (reply_of : List ℕ → Request → Reply) (shape : Shape
             old.takes;
       }
 
-  same : {X : Type 0} (list : SeatLists → X) → ((l : SeatLists) → list (noted note l) ≡ list l) → (k : ℕ) → list (seat_of core' k) ≡ list (seat_of core k)
-  same list stays k = same_field core core' v.seat note one list stays k
-
   in_work' : PostsInWork core' (set s.views id u)
   in_work' k key awaits =
-      let before : AwaitsReply (seat_of core k) key = record {
-        was_posted = omega (arith, awaits.was_posted, ap (times key) (same posted (λ l. refl) k));
-        uncancelled = sym (ap (times key) (same cancelled (λ l. refl) k)) ∙ awaits.uncancelled;
-        unabandoned = sym (ap (times key) (same abandoned (λ l. refl) k)) ∙ awaits.unabandoned;
-        unreceived = sym (ap (has_last key) (same received (λ l. refl) k)) ∙ awaits.unreceived;
-      } in
-      omega (arith, holds.views.in_work k key before, sum_set (draw_at key) s.views id v u at, no_draw key)
+      omega (arith, holds.views.in_work k key (awaited core core' v.seat note one (λ l. (refl, refl, refl, refl)) k key awaits), sum_set (draw_at key) s.views id v u at, no_draw key)
 
   popped_is : role_of core v.seat ≡ 0 → holds.popped v.seat ≡ c'.popped
   popped_is engine = absurd (omega (arith, engine, worker))
@@ -200,7 +188,7 @@ module _ {H : Type 0} (reply_of : List ℕ → Request → Reply) (shape : Shape
     comes = comes reply_of shape s holds id v carried at queue item stream run_word there tag nonzero run_word_is may note note_is (λ l. refl) c c' Holding (Holding ∷ []) v.records ledger
         holds.popped armed' popped_is (λ k ne. refl) order
         (kept_by_holder reply_of shape s holds id v carried at queue item stream run_word there tag nonzero run_word_is may note note_is (λ l. refl) c c' Holding (Holding ∷ []) v.records ledger mine)
-        works' (postings reply_of shape s holds id v carried at queue item stream run_word there tag nonzero run_word_is may note note_is (λ l. refl) v (holds.views.records_known id v at)) in_work';
+        works' (postings reply_of shape s holds id v carried at queue item stream run_word there tag nonzero run_word_is may note note_is (λ l. refl) v (holds.views.records_known id v at)) (λ k. omega arith) in_work';
   }
 
 pub close : (H : Type 0) → CloseLaw H

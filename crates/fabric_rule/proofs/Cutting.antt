@@ -1,5 +1,5 @@
 -- A view is cut in two: no step.
-use Rattle.std.proofs.Common.{ℕ, ◌+◌, ◌≡◌, ◌≤◌, ◌<◌, ◌==◌, ◌&&◌, inl, inr, ⊎_elim, Bool, true, false, cond, List, [], length, set, Some, refl, sym, ap, ◌∙◌, subst, arith}
+use Rattle.std.proofs.Common.{ℕ, ◌+◌, ◌≡◌, ◌≤◌, ◌<◌, ◌==◌, ◌&&◌, inl, inr, ⊎_elim, Bool, true, false, cond, List, [], length, set, Some, sym, ap, ◌∙◌, subst, arith, ◌∷◌}
 use Rattle.std.specs.Prelude.{Option}
 use mathlib.Core.Option.{some}
 use lib.ListN.{get_elem?}
@@ -20,7 +20,7 @@ use Rattle.unit_model.specs.Sharing.{Holds}
 use Rattle.unit_model.specs.Weights.{weigh, is_number, one_if}
 use Rattle.unit_model.specs.declared.machine.Core.{Core}
 use Rattle.unit_model.specs.declared.shape.Shape.{Shape}
-use Rattle.unit_model.proofs.Views.{sum_split}
+use Rattle.unit_model.proofs.Views.{sum_split, sum_set}
 use Rattle.unit_types.specs.declared.message.Reply.{Reply}
 use Rattle.unit_types.specs.declared.message.Request.{Request}
 use Rattle.fabric_words.specs.Offsets.{word_in}
@@ -30,7 +30,7 @@ use Rattle.fabric_rule.specs.Parts.{IsIdle, IsOfFabric, IsPosting, IsTrueLedger,
 use Rattle.fabric_rule.specs.Rule.{FabricHolds, NotesAreTrue, ViewsShow}
 use Rattle.fabric_rule.specs.Seats.{HasItsArm, IsCut}
 use Rattle.fabric_rule.specs.Steps.{IsNoStep}
-use Rattle.fabric_rule.specs.Views.{arms_at, chunks_at, draw_at, draw_weight, got_at, hand_at, held_at, is_got, item_log, kept_at, lists_at, log_at, map_log, opens_at, part_in, part_said, posts_at, queues_in, ring_in, ring_log, run_in, run_said, tag_in, tag_kept, tag_said, take_at, take_weight, words_in, works_at}
+use Rattle.fabric_rule.specs.Views.{arms_at, chunks_at, draw_at, draw_weight, got_at, hand_at, held_at, is_got, item_log, kept_at, lists_at, log_at, map_log, opens_at, part_in, part_said, posts_at, queues_in, ring_in, ring_log, run_in, run_said, tag_in, tag_kept, tag_said, take_at, take_weight, words_in, works_at, records_at}
 use Rattle.fabric_rule.specs.declared.event.FabricEvent.{FabricEvent}
 use Rattle.fabric_rule.specs.declared.event.Segments.TheVariants.{Out, Back}
 use Rattle.fabric_rule.specs.declared.view.ArmNote.{ArmNote}
@@ -44,8 +44,10 @@ use Rattle.fabric_rule.specs.declared.view.Work.TheVariants.{Drawn, Posted, Take
 use Rattle.fabric_rule.proofs.Hands.{nothing_of}
 use Rattle.fabric_rule.proofs.KeyedSteps.{keyed_split}
 use Rattle.fabric_rule.proofs.LatestArms.{streams_same}
+use Rattle.fabric_rule.proofs.RuleSteps.{views_change}
 use Rattle.fabric_rule.proofs.Sharing.{among, among_weighs, shared_long, shared_one, shared_other, shared_weighs}
 use Rattle.fabric_rule.proofs.Sums.{each_both}
+use Rattle.unit_model.proofs.Weights.{weigh-append}
 
 -- what is known of a work is known by who has the arm of its post
 pub re_armed : (core : Core) (armed : ℕ → List ℕ) (seat : ℕ) (arms arms' : List ArmNote) (w : Work) → HasItsArm arms' w → KnowsWork core armed seat arms w → KnowsWork core armed seat arms' w
@@ -240,6 +242,7 @@ module _ {H : Type 0} (reply_of : List ℕ → Request → Reply) (shape : Shape
             (subst (λ (l : List Posting). Each (IsPosting core holds.records) l) (sym cut.left_records) (old.records_known id v at))
             (subst (λ (l : List Posting). Each (IsPosting core holds.records) l) (sym cut.right_records) (old.records_known id v at))
             old.records_known;
+        records_there = λ k was. omega (arith, old.records_there k was, sum_set (records_at k) s.views id v left at, weigh-append (records_at k) (set s.views id left) (right ∷ []), ap (weigh (λ (p : Posting). is_number k p.stream)) cut.left_records);
         lists = keyed_split FabricView lists_at (ShowsLists core holds.popped) s.views id v left right at
             (λ key. lists_sum (λ (c : Ledger). is_number key c.seat))
             (λ key has is. shared_one (λ (c : Ledger). c.seat ≡ key → IsTrueLedger core holds.popped c) v.ledgers left.ledgers right.ledgers cut.ledgers is)
@@ -259,20 +262,4 @@ module _ {H : Type 0} (reply_of : List ℕ → Request → Reply) (shape : Shape
       }
 
   pub cuts : IsNoStep reply_of shape s holds (record s { views = views' })
-  cuts = record {
-    after = record {
-      wide = holds.wide;
-      core = core;
-      popped = holds.popped;
-      armed = holds.armed;
-      records = holds.records;
-      shaped = holds.shaped;
-      keeps = holds.keeps;
-      shows = holds.shows;
-      notes = notes';
-      views = shown;
-      free = holds.free;
-      filled = holds.filled;
-    };
-    is = refl;
-  }
+  cuts = views_change reply_of shape s holds views' notes' shown

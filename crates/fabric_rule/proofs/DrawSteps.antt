@@ -15,7 +15,6 @@ use Rattle.unit_model.specs.Weights.{weigh, is_number, times}
 use Rattle.unit_model.specs.declared.machine.Core.{Core}
 use Rattle.unit_model.specs.declared.machine.Item.{Item}
 use Rattle.unit_model.specs.declared.machine.Note.TheVariants.{Drawn}
-use Rattle.unit_model.specs.declared.machine.Sides.{Sides}
 use Rattle.unit_model.specs.declared.machine.Step.TheVariants.{Draw}
 use Rattle.unit_model.specs.declared.shape.Shape.{Shape}
 use Rattle.unit_model.proofs.MetSteps.{role_is_there}
@@ -35,27 +34,29 @@ use Rattle.fabric_words.proofs.EachStep.{made_step}
 use Rattle.fabric_words.proofs.Frames.{chunk_stays}
 use Rattle.fabric_words.proofs.Standing.{set_word}
 use Rattle.fabric_rule.specs.Drawing.{DrawLaw, with_drawn}
-use Rattle.fabric_rule.specs.FrameLaws.{NotesOne, StaysUntagged}
-use Rattle.fabric_rule.specs.Parts.{AwaitsReply, IsIdle, IsPosting, IsTrueLedger, KeptAreWorn, KnowsDrawn, KnowsWork, OpensNoted, PostsInWork, RecordsKnown, ShowsWorks, WorksShown}
+use Rattle.fabric_rule.specs.FrameLaws.{NotesOne}
+use Rattle.fabric_rule.specs.Parts.{AwaitsReply, KnowsDrawn, KnowsWork, PostsInWork, ShowsWorks, WorksShown}
 use Rattle.fabric_rule.specs.Rule.{FabricHolds, NotesAreTrue, ViewsShow}
 use Rattle.fabric_rule.specs.Steps.{IsMachineStep, IsMain}
 use Rattle.fabric_rule.specs.Steps.{with_note as main_note}
-use Rattle.fabric_rule.specs.Views.{draw_at, draw_weight, lists_at, opens_at, posts_at, ring_in, take_at, take_weight, works_at}
+use Rattle.fabric_rule.specs.Views.{draw_at, draw_weight, opens_at, take_at, take_weight, works_at}
 use Rattle.fabric_rule.specs.declared.event.FabricEvent.TheVariants.{SawNext}
 use Rattle.fabric_rule.specs.declared.view.ArmNote.{ArmNote}
 use Rattle.fabric_rule.specs.declared.view.Ledger.{Ledger}
 use Rattle.fabric_rule.specs.declared.view.FabricView.{FabricView}
-use Rattle.fabric_rule.specs.declared.view.Posting.{Posting}
 use Rattle.fabric_rule.specs.declared.view.Work.{Work}
 use Rattle.fabric_rule.specs.declared.view.Work.TheVariants.{Drawn as DrawnWork, Posted as PostedWork, Taken as TakenWork, Sending, Holding}
 use Rattle.fabric_rule.proofs.ArmSteps.{drawn_stream}
-use Rattle.fabric_rule.proofs.Beside.{TailsRise, keeps_beside, notes_beside, rings_beside, tails_same}
-use Rattle.fabric_rule.proofs.Contents.{filled_stay, kept_stay, kept_untagged}
-use Rattle.fabric_rule.proofs.Frames.{chunks_stay, items_stay, of_each, of_fabric}
+use Rattle.fabric_rule.proofs.Beside.{notes_beside, rings_beside, tails_same}
+use Rattle.fabric_rule.proofs.Ledgers.{own_popped}
+use Rattle.fabric_rule.proofs.RuleSteps.{step_made}
+use Rattle.fabric_rule.proofs.Staying.{LeavesStreams, views_stay}
+use Rattle.fabric_rule.proofs.Contents.{filled_stay}
+use Rattle.fabric_rule.proofs.Frames.{chunks_stay, items_stay, opens_stay}
 use Rattle.fabric_rule.proofs.KeyedSteps.{keyed_none, keyed_step}
-use Rattle.fabric_rule.proofs.ListFrames.{counted_stay, lists_there, streams_stay}
 use Rattle.fabric_rule.proofs.Noting.{lists_noted, said_as, work_noted, work_stream}
-use Rattle.fabric_rule.proofs.Sums.{each_gives, sum_stays}
+use Rattle.fabric_rule.proofs.Sums.{each_gives}
+use Rattle.unit_model.proofs.PartOrderOthers.{others_in_order}
 
 -- ---- what Draw leaves of a core
 
@@ -192,14 +193,6 @@ module _ {H : Type 0} (reply_of : List ℕ → Request → Reply) (shape : Shape
 
   -- ---- what the seat's lists say
 
-  own_ledger : IsTrueLedger core holds.popped c
-  own_ledger =
-      let once : 1 ≤ lists_at c.seat v = omega (arith, ap (weigh (λ (d : Ledger). is_number c.seat d.seat)) main.only, is_number_same c.seat) in
-      (subst (λ (cs : List Ledger). Each (λ (d : Ledger). d.seat ≡ c.seat → IsTrueLedger core holds.popped d) cs) main.only (holds.views.lists.each c.seat id v at once)).0 refl
-
-  popped_is : holds.popped v.seat ≡ c.popped
-  popped_is = sym (ap holds.popped main.number) ∙ own_ledger.popped_item (ap (role_of core) main.number ∙ role)
-
   knows : KnowsDrawn (seat_of core' v.seat) stream
   knows = record {
     drew = omega (arith, grow.here stream, is_number_same stream);
@@ -283,59 +276,34 @@ module _ {H : Type 0} (reply_of : List ℕ → Request → Reply) (shape : Shape
 
   -- ---- views
 
-  opens_same : (y : FabricView) → OpensNoted core y → OpensNoted core' y
-  opens_same y old = record {
-    out = omega (arith, old.out, ap (λ (o : Sides). o.out) (drawn_opened core v.seat stream));
-    back = omega (arith, old.back, ap (λ (o : Sides). o.back) (drawn_opened core v.seat stream));
-  }
-
-  postings : (ps : List Posting) → Each (IsPosting core holds.records) ps → Each (IsPosting core' holds.records) ps
-  postings ps old = each_gives (IsPosting core holds.records) (IsPosting core' holds.records) ps (λ p is. record { same = is.same; was = omega (arith, is.was, same_posts.all p.stream) }) old
-
   views' : ViewsShow shape word' holds.popped holds.armed holds.records core' (set s.views id u)
   views' =
       let old = holds.views in
       let items = drawn_items core v.seat stream in
-      let tails : TailsRise core.shape word word' = tails_same core shape word word' holds.shaped (rings_beside shape word word' NextStream (stream + 1) sets refl (λ r side. refl)) in
-      let untagged : (y : FabricView) → Each (StaysUntagged core core') y.kept = kept_untagged core core' (λ q i none. ap (λ (y : Item). y.tag) (items q i) ∙ none) in
-      record {
-        there = of_fabric core core' s.views id v u at shape_same refl refl old.there;
+      let leaves : LeavesStreams core core' = record { shape = shape_same; posts = same_posts.all; items = λ q i. record { last = ap (λ (y : Item). y.stream) (items q i); untagged = λ none. ap (λ (y : Item). y.tag) (items q i) ∙ none } } in
+      views_stay shape word word' holds.popped holds.armed holds.popped holds.armed holds.records core core' leaves s.views id v u at (record { shape = refl; number = refl; arms = refl; records = refl; kept = refl })
+      (tails_same core shape word word' holds.shaped (rings_beside shape word word' NextStream (stream + 1) sets refl (λ r side. refl)))
+      (record {
         items = items_stay core core' s.views id v u at shape_same (λ q i lt. ap (λ (y : Item). y.whereabouts) (items q i)) (λ q f. refl) old.items;
         chunks = chunks_stay core core' s.views id v u at shape_same (drawn_owner core v.seat stream) (λ f. refl) old.chunks;
-        opens = of_each (OpensNoted core) (OpensNoted core') s.views id u (record { out = (opens_same v (old.opens id v at)).out; back = (opens_same v (old.opens id v at)).back }) opens_same old.opens;
-        posts = λ key. sum_stays (posts_at key) s.views id v u at refl ∙ old.posts key ∙ sym (same_posts.all key);
-        streams = streams_stay core core' s.views id v u at shape_same (λ q i. ap (λ (y : Item). y.stream) (items q i)) refl old.streams;
-        records_known = of_each (RecordsKnown core holds.records) (RecordsKnown core' holds.records) s.views id u (postings v.records (old.records_known id v at)) (λ y. postings y.records) old.records_known;
-        lists = lists_noted core core' (Drawn stream) holds.popped holds.popped s.views id v u c (main_note (Drawn stream) 1 c) at notes_one main.only main.number refl refl refl refl (λ is_engine. popped_is) (λ k ne. refl) old.lists;
-        lists_there = lists_there core core' s.views id v u at shape_same (λ k. sym (ap (weigh (λ (d : Ledger). is_number k d.seat)) main.only)) old.lists_there;
+        opens = opens_stay core core' s.views id v u at (drawn_opened core v.seat stream) refl refl old.opens;
+        lists = lists_noted core core' (Drawn stream) holds.popped holds.popped s.views id v u c (main_note (Drawn stream) 1 c) at notes_one main.only main.number refl refl refl refl (λ is_engine. own_popped core holds.popped s.views id v c at main role old.lists) (λ k ne. refl) old.lists;
+        numbers = λ k. sym (ap (weigh (λ (d : Ledger). is_number k d.seat)) main.only);
         works = works';
-        counted = counted_stay s.views id v u at counts_more old.counted;
-        idle = of_each (IsIdle shape) (IsIdle shape) s.views id u (λ spent. absurd (cc spent)) (λ y is. is) old.idle;
+        counted = counts_more;
+        idle = λ spent. absurd (cc spent);
         in_work = in_work';
-        kept = of_each (KeptAreWorn core (ring_in word)) (KeptAreWorn core' (ring_in word')) s.views id u
-            (kept_stay core core' (ring_in word) (ring_in word') v u shape_same tails (untagged v) refl (old.kept id v at)) (λ y. kept_stay core core' (ring_in word) (ring_in word') y y shape_same tails (untagged y) refl) old.kept;
-      }
+      })
+      old
 
   pub draws : IsMachineStep reply_of shape s holds (Draw v.seat stream) (stepped s (offset_of shape NextStream) (stream + 1) id carried u keeps)
-  draws = record {
-    enabled = link.enabled;
-    after = record {
-      wide = omega (arith, holds.wide, length-set s.words (offset_of shape NextStream) (stream + 1));
-      core = core';
-      popped = holds.popped;
-      armed = holds.armed;
-      records = holds.records;
-      shaped = shape_same ∙ holds.shaped;
-      keeps = keeps_beside holds.popped holds.armed core (Draw v.seat stream) tt link.enabled link.sound holds.keeps;
-      shows = link.shows;
-      notes = notes';
-      views = views';
-      free = λ chunk lt is_set. holds.free chunk lt (sym (chunk_stays shape word word' NextStream (stream + 1) sets (λ k e. absurd (cc e)) chunk lt) ∙ is_set);
-      filled = filled_stay H reply_of holds.records holds.records core core' s.homes s.homes shape_same
-          (λ q i has armed. let is = drawn_items core v.seat stream q i in (ap (λ (y : Item). y.tag) is, ap (λ (y : Item). y.run) is, ap (λ (y : Item). y.part) is, refl, λ chunk in_run. refl)) holds.filled;
-    };
-    is = refl;
-  }
+  draws =
+      step_made reply_of shape s holds (Draw v.seat stream) (set s.words (offset_of shape NextStream) (stream + 1)) s.homes (set s.views id u) holds.popped holds.armed
+      (omega (arith, holds.wide, length-set s.words (offset_of shape NextStream) (stream + 1))) link (shape_same ∙ holds.shaped)
+      (others_in_order holds.popped holds.armed core (Draw v.seat stream) holds.keeps.sound holds.keeps.order tt link.enabled) notes' views'
+      (λ chunk lt is_set. holds.free chunk lt (sym (chunk_stays shape word word' NextStream (stream + 1) sets (λ k e. absurd (cc e)) chunk lt) ∙ is_set))
+      (filled_stay H reply_of holds.records holds.records core core' s.homes s.homes shape_same
+      (λ q i has armed. let is = drawn_items core v.seat stream q i in (ap (λ (y : Item). y.tag) is, ap (λ (y : Item). y.run) is, ap (λ (y : Item). y.part) is, refl, λ chunk in_run. refl)) holds.filled)
 
 pub draw : (H : Type 0) → DrawLaw H
 draw H reply_of shape s holds id v c carried at main engine stream low found = draws reply_of shape s holds id v c carried at main engine stream low found

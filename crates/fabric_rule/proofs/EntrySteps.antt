@@ -1,5 +1,5 @@
 -- An item goes into a ring.
-use Rattle.std.proofs.Common.{ℕ, ⊎_elim, ◌+◌, ◌%◌, ◌≡◌, ◌≢◌, ◌≤◌, ◌<◌, ◌⊎◌, ◌==◌, ◌&&◌, inl, inr, Bool, true, false, cond, List, [], ◌∷◌, length, set, refl, sym, ap, ◌∙◌, subst, arith, length-set, Some}
+use Rattle.std.proofs.Common.{ℕ, ⊎_elim, ◌+◌, ◌%◌, ◌≡◌, ◌≢◌, ◌≤◌, ◌<◌, ◌==◌, ◌&&◌, inl, inr, Bool, true, false, cond, List, [], ◌∷◌, length, set, refl, sym, ap, ◌∙◌, subst, arith, length-set}
 use Rattle.std.specs.Prelude.{Option}
 use Rattle.std.proofs.lemmas.Bool.{cases_eq, ne_eqb}
 use mathlib.Core.Option.{some}
@@ -11,17 +11,12 @@ use Rattle.nncq_ring.specs.declared.view.RingEvent.{RingEvent}
 use Rattle.nncq_ring.specs.declared.view.RingEvent.TheVariants.{Pushed, SawTail}
 use Rattle.nncq_ring.proofs.Exchanges.{places_long, pushed_tail}
 use Rattle.nncq_ring.proofs.RingParts.{note_at, part_pushes}
-use Rattle.app_queue.specs.Queues.{IsOther}
-use Rattle.app_queue.specs.Views.{last_tag, last_run, last_part, is_armed}
 use Rattle.app_queue.specs.declared.side.Side.{Side}
 use Rattle.app_queue.specs.declared.side.Side.TheVariants.{Free, Line}
-use Rattle.app_queue.specs.declared.view.ItemEvent.{ItemEvent}
-use Rattle.app_queue.proofs.ArmFrames.{arms_stay}
-use Rattle.app_queue.proofs.KnownFrames.{tags_known, words_known}
 use Rattle.app_queue.proofs.RingFrames.{rings_step}
 use Rattle.request_context.specs.declared.piece.Parcel.{Parcel}
-use Rattle.unit_model.specs.Core.{item_of, owner_of, queue_of, role_of}
-use Rattle.unit_model.specs.Effects.{after_step, with_free, with_in_line, with_item}
+use Rattle.unit_model.specs.Core.{item_of, queue_of, role_of}
+use Rattle.unit_model.specs.Effects.{after_step}
 use Rattle.unit_model.specs.Holding.{is_in_free_list, is_in_line, items_of}
 use Rattle.unit_model.specs.PartOrder.{PartsInOrder}
 use Rattle.unit_model.specs.Premises.{Fills, IsInHand}
@@ -35,36 +30,37 @@ use Rattle.unit_model.specs.declared.machine.Step.TheVariants.{GiveItem, Push}
 use Rattle.unit_model.specs.declared.machine.Whereabouts.{Whereabouts}
 use Rattle.unit_model.specs.declared.machine.Whereabouts.TheVariants.{InFreeList, InLine}
 use Rattle.unit_model.specs.declared.shape.Shape.{Shape}
-use Rattle.unit_model.proofs.ItemChanges.{SetsItem, item_beside, item_elsewhere, item_here}
+use Rattle.unit_model.proofs.ItemChanges.{SetsItem, item_here}
 use Rattle.unit_model.proofs.PartOrderOthers.{others_in_order}
-use Rattle.unit_model.proofs.RoleLists.{seats_by_role_stay}
-use Rattle.unit_model.proofs.RoleSteps.{by_role_stays}
 use Rattle.unit_model.proofs.StepFacts.{sets_after_give, sets_after_push}
 use Rattle.unit_types.specs.declared.message.Reply.{Reply}
 use Rattle.unit_types.specs.declared.message.Request.{Request}
 use Rattle.fabric_words.specs.Needs.{IsVacant}
 use Rattle.fabric_words.specs.Offsets.{offset_of, word_in}
-use Rattle.fabric_words.specs.Places.{HasItem, Sets, is_of_ring, queues_of}
+use Rattle.fabric_words.specs.Places.{HasItem, Sets, queues_of}
 use Rattle.fabric_words.specs.Shown.{IsStep}
 use Rattle.fabric_words.specs.declared.place.Place.{Place}
-use Rattle.fabric_words.specs.declared.place.Place.TheVariants.{Head, Tail, Slot, Tag, RunWord, PartWord}
+use Rattle.fabric_words.specs.declared.place.Place.TheVariants.{Head, Tail, Slot, Tag}
 use Rattle.fabric_words.specs.declared.place.Side.TheVariants.{FreeSide, LineSide}
 use Rattle.fabric_words.proofs.EachStep.{made_step}
-use Rattle.fabric_words.proofs.Frames.{chunk_stays, other_queue, other_side, ring_stays}
+use Rattle.fabric_words.proofs.Frames.{chunk_stays, ring_stays}
 use Rattle.fabric_words.proofs.Standing.{set_word}
-use Rattle.fabric_rule.specs.FrameLaws.{SameLists}
+use Rattle.fabric_rule.specs.Logs.{own_log}
 use Rattle.fabric_rule.specs.Parts.{ItemsHeld, PostsInWork, WorksShown, hand_weight}
 use Rattle.fabric_rule.specs.Rule.{FabricHolds, NotesAreTrue, ViewsShow}
 use Rattle.fabric_rule.specs.Steps.{GiveItemLaw, IsMachineStep, MayPut, PushLineLaw, is_held, slot_of, with_put}
-use Rattle.fabric_rule.specs.Views.{arms_at, got_at, held_at, is_got, item_log, log_at, part_in, part_said, queues_in, ring_in, run_in, run_said, tag_in, tag_kept, tag_said, word_side, works_at}
+use Rattle.fabric_rule.specs.Views.{held_at, is_got, item_log, log_at, queues_in, ring_in, word_side, works_at}
 use Rattle.fabric_rule.specs.declared.view.FabricView.{FabricView}
 use Rattle.fabric_rule.specs.declared.view.HeldItem.{HeldItem}
 use Rattle.fabric_rule.specs.declared.view.Work.{Work}
 use Rattle.fabric_rule.proofs.Contents.{filled_stay}
-use Rattle.fabric_rule.proofs.Frames.{item_moves}
-use Rattle.fabric_rule.proofs.Logs.{other_log, own_log}
+use Rattle.fabric_rule.proofs.Frames.{item_moves, chunks_stay, opens_stay}
+use Rattle.fabric_rule.proofs.Logs.{other_log, off_ring}
 use Rattle.fabric_rule.proofs.ListFrames.{in_work_stay, works_stay}
-use Rattle.fabric_rule.proofs.Staying.{SaysTheSame, moved_alone, views_stay}
+use Rattle.fabric_rule.proofs.Staying.{SaysTheSame, moved_alone, streams_left, unchanged, views_stay}
+use Rattle.fabric_rule.proofs.CoreSteps.{LeavesSeats, give_leaves, push_leaves}
+use Rattle.fabric_rule.proofs.ItemNotes.{ItemsStill, items_noted, still_beside}
+use Rattle.fabric_rule.proofs.RuleSteps.{step_made}
 use Rattle.std.proofs.Common.{◌-◌, mod-lt}
 use Rattle.std.proofs.lemmas.List.{length-map}
 use Rattle.std.proofs.lemmas.Bool.{and_parts, cases_Bool, eqb-true}
@@ -121,9 +117,7 @@ room_of n w entries next shows short =
 
 pub record Leaves (word' : Place → ℕ) (core : Core) (step : Step) (queue item : ℕ) (gone : Whereabouts) : Type 0 where
   pub link : IsStep word' core step
-  pub same : SameLists core (after_step core step)
-  pub owners : (chunk : ℕ) → owner_of (after_step core step) chunk ≡ owner_of core chunk
-  pub opened : (after_step core step).opened ≡ core.opened
+  pub leaves : LeavesSeats core (after_step core step)
   pub sets : SetsItem core (after_step core step) queue item (record (item_of core queue item) { whereabouts = gone })
   pub weightless : (f : ℕ → ℕ → ℕ) (i : ℕ) → hand_weight f gone i ≡ 0
 
@@ -133,31 +127,6 @@ pub record OfWorks (popped armed : ℕ → List ℕ) (core : Core) (v u : Fabric
   pub many : (k : ℕ) → works_at k u ≡ works_at k v
   pub in_work : PostsInWork core views
   pub order : PartsInOrder popped armed core
-
-module _ (core : Core) (seat queue item place : ℕ) where
-  push_lists : SameLists core (after_step core (Push seat queue item place))
-  unfolding after_step with_item with_in_line
-  push_lists = record { shape = refl; seats = refl }
-
-  push_owner : (chunk : ℕ) → owner_of (after_step core (Push seat queue item place)) chunk ≡ owner_of core chunk
-  unfolding after_step with_item with_in_line
-  push_owner chunk = refl
-
-  push_opened : (after_step core (Push seat queue item place)).opened ≡ core.opened
-  unfolding after_step with_item with_in_line
-  push_opened = refl
-
-  give_lists : SameLists core (after_step core (GiveItem seat queue item place))
-  unfolding after_step with_item with_free
-  give_lists = record { shape = refl; seats = refl }
-
-  give_owner : (chunk : ℕ) → owner_of (after_step core (GiveItem seat queue item place)) chunk ≡ owner_of core chunk
-  unfolding after_step with_item with_free
-  give_owner chunk = refl
-
-  give_opened : (after_step core (GiveItem seat queue item place)).opened ≡ core.opened
-  unfolding after_step with_item with_free
-  give_opened = refl
 
 -- ---- the step
 
@@ -224,12 +193,6 @@ module _ {H : Type 0} (reply_of : List ℕ → Request → Reply) (shape : Shape
   pub sized : length (queue_of core queue).items ≡ n
   sized = holds.keeps.sound.held.shape.items queue there'.in_queues ∙ ap (λ (sh : Shape). items_of sh queue) holds.shaped
 
-  off_ring : (s1 : Side) (r : ℕ) (other : Side) → IsOther queue s1 r other → is_of_ring r (word_side other) (Slot queue (word_side s1) (place % n)) ≡ false
-  off_ring Free r Free apart = ⊎_elim (λ ne. other_queue r queue FreeSide FreeSide ne) (λ ne. absurd (ne refl)) apart
-  off_ring Free r Line apart = other_side r queue LineSide FreeSide refl
-  off_ring Line r Free apart = other_side r queue FreeSide LineSide refl
-  off_ring Line r Line apart = ⊎_elim (λ ne. other_queue r queue LineSide LineSide ne) (λ ne. absurd (ne refl)) apart
-
   same_items : (r : ℕ) → item_log r u.log ≡ item_log r v.log
   same_items r = by (queue == r)
     where
@@ -255,42 +218,21 @@ module _ {H : Type 0} (reply_of : List ℕ → Request → Reply) (shape : Shape
   notes' room =
       let old = holds.notes in
       let seen : place ≤ w.tail = note_at n w (log_at queue side v) may.seen_at (SawTail place) may.seen (part.noted id v at) in
-      record {
-        rings = rings_step FabricView log_at (queues_in shape) (ring_in word) (ring_in word') s.views id v u at queue side
-            (λ r lt other apart. ring_stays shape word word' (slot_of shape queue side place) (entry_of n place item) sets r (word_side other) lt (off_ring side r other apart))
-            (λ r lt other apart. other_log queue side e v.log r other apart)
-            (part_pushes n (log_at queue side) w s.views id v at part w' u place item may.seen_at may.seen (own_log queue side e v.log) may.vacant there.in_items room entry_sets)
-            (omega (arith, pushed_tail n place item w w' part.fine seen may.vacant there.in_items room entry_sets, may.low))
-            old.rings;
-        tags = tags_known FabricView tag_said held_at (queues_in shape) (tag_in word) (tag_in word') s.views id v u at (λ q lt i below_n. sets.others (Tag q i) (record { in_queues = lt; in_items = below_n }) (λ is. absurd (cc is)))
-            (λ q i held. (was_held q i held, λ x told. subst (λ (es : List ItemEvent). last_tag i es ≡ Some x) (same_items q) told)) old.tags;
-        kept_tags = words_known FabricView (tag_kept shape) held_at (queues_in shape) (tag_in word) (tag_in word') s.views id v u at (λ q lt i below_n. sets.others (Tag q i) (record { in_queues = lt; in_items = below_n }) (λ is. absurd (cc is)))
-            (λ q i held. (was_held q i held, λ x told. (subst (λ (es : List ItemEvent). last_tag i es ≡ Some x) (same_items q) told.0, told.1))) old.kept_tags;
-        runs = words_known FabricView run_said held_at (queues_in shape) (run_in word) (run_in word') s.views id v u at (λ q lt i below_n. sets.others (RunWord q i) (record { in_queues = lt; in_items = below_n }) (λ is. absurd (cc is)))
-            (λ q i held. (was_held q i held, λ x told. subst (λ (es : List ItemEvent). last_run i es ≡ Some x) (same_items q) told)) old.runs;
-        parts = words_known FabricView part_said held_at (queues_in shape) (part_in word) (part_in word') s.views id v u at (λ q lt i below_n. sets.others (PartWord q i) (record { in_queues = lt; in_items = below_n }) (λ is. absurd (cc is)))
-            (λ q i held. (was_held q i held, λ x told. subst (λ (es : List ItemEvent). last_part i es ≡ Some x) (same_items q) told)) old.parts;
-        arms = λ q lt.
-            let heads : word' (Head q FreeSide) ≡ word (Head q FreeSide) = sets.others (Head q FreeSide) lt (λ is. absurd (cc is)) in
-            arms_stay FabricView (got_at q) (arms_at q) (held_at q) (items_of shape q) (word (Head q FreeSide)) (word' (Head q FreeSide)) (tag_in word q) (tag_in word' q) (run_in word q) (run_in word' q) (part_in word q) (part_in word' q) s.views id v u at
-            (omega (arith, heads))
-            (λ i below_n. inr (sets.others (Tag q i) (record { in_queues = lt; in_items = below_n }) (λ is. absurd (cc is)), sets.others (RunWord q i) (record { in_queues = lt; in_items = below_n }) (λ is. absurd (cc is)), sets.others (PartWord q i) (record { in_queues = lt; in_items = below_n }) (λ is. absurd (cc is))))
-            refl
-            (λ i held p got. (was_held q i held, (omega (arith, got.0, fewer_got queue item q i p v.items), subst (λ (es : List ItemEvent). is_armed i es ≡ false) (same_items q) got.1))) (old.arms q lt);
-      }
+      let still : ItemsStill shape word word' = still_beside shape word word' (slot_of shape queue side place) (entry_of n place item) sets (λ q i. ((λ is. absurd (cc is)), (λ is. absurd (cc is)), (λ is. absurd (cc is)))) in
+      items_noted shape word word' still (λ q lt. omega (arith, sets.others (Head q FreeSide) lt (λ is. absurd (cc is)))) s.views id v at v.ledgers new_works v.chunks u.items v.kept u.log was_held (λ q i p got. omega (arith, got, fewer_got queue item q i p v.items)) same_items
+      (rings_step FabricView log_at (queues_in shape) (ring_in word) (ring_in word') s.views id v u at queue side
+      (λ r lt other apart. ring_stays shape word word' (slot_of shape queue side place) (entry_of n place item) sets r (word_side other) lt (off_ring queue side r other apart))
+      (λ r lt other apart. other_log queue side e v.log r other apart)
+      (part_pushes n (log_at queue side) w s.views id v at part w' u place item may.seen_at may.seen (own_log queue side e v.log) may.vacant there.in_items room entry_sets)
+      (omega (arith, pushed_tail n place item w w' part.fine seen may.vacant there.in_items room entry_sets, may.low))
+      old.rings)
+      old
 
   -- ---- views
 
   module _ (step : Step) (gone : Whereabouts) (leaves : Leaves word' core step queue item gone) where
     abbrev core' : Core
     core' = after_step core step
-
-    moved : (q i : ℕ) → (q ≢ queue) ⊎ (i ≢ item) → item_of core' q i ≡ item_of core q i
-    moved q i apart =
-        elim (cases_eq q queue) [
-          | inl is ↦ ⊎_elim (λ ne. absurd (ne is)) (λ ne. subst (λ (r : ℕ). item_of core' r i ≡ item_of core r i) (sym is) (item_beside core core' queue item (record (item_of core queue item) { whereabouts = gone }) leaves.sets i ne)) apart
-          | inr ne ↦ item_elsewhere core core' queue item (record (item_of core queue item) { whereabouts = gone }) leaves.sets q i ne
-        ]
 
     here : item_of core' queue item ≡ record (item_of core queue item) { whereabouts = gone }
     here = item_here core core' queue item (record (item_of core queue item) { whereabouts = gone }) leaves.sets
@@ -302,7 +244,7 @@ module _ {H : Type 0} (reply_of : List ℕ → Request → Reply) (shape : Shape
     items' =
         let was : (f : ℕ → ℕ → ℕ) → hand_weight f (item_of core queue item).whereabouts item ≡ f v.seat item = λ f. ap (λ (x : Whereabouts). hand_weight f x item) hand in
         let is : (f : ℕ → ℕ → ℕ) → hand_weight f (item_of core' queue item).whereabouts item ≡ 0 = λ f. ap (λ (x : Item). hand_weight f x.whereabouts item) here ∙ leaves.weightless f item in
-        item_moves core core' s.views id v u at leaves.same.shape queue item there'.in_items (λ q i apart. ap (λ (x : Item). x.whereabouts) (moved q i apart))
+        item_moves core core' s.views id v u at leaves.leaves.lists.shape queue item there'.in_items (λ q i apart. ap (λ (x : Item). x.whereabouts) (unchanged core core' queue item (record (item_of core queue item) { whereabouts = gone }) leaves.sets q i apart))
         (λ f. omega (arith, was f, is f, held_here (f v.seat)))
         (λ q f ne. omega (arith, held_else q (f v.seat) ne))
         holds.views.items
@@ -311,12 +253,14 @@ module _ {H : Type 0} (reply_of : List ℕ → Request → Reply) (shape : Shape
     views' armed' says =
         let tails : (q : ℕ) → q < queues_of core.shape → (ring_in word q Free).tail ≤ (ring_in word' q Free).tail = λ q lt.
         let is : word' (Tail q FreeSide) ≡ word (Tail q FreeSide) = sets.others (Tail q FreeSide) (subst (λ (sh : Shape). q < queues_of sh) holds.shaped lt) (λ is_slot. absurd (cc is_slot)) in omega (arith, is) in
-        views_stay shape word word' holds.popped holds.armed holds.popped armed' holds.records core core' (record { lists = leaves.same; owners = leaves.owners; opened = leaves.opened; items = same_item }) s.views id v u at
-        (record { shape = refl; number = refl; chunks = refl; arms = refl; records = refl; kept = refl; out = refl; back = refl })
+        views_stay shape word word' holds.popped holds.armed holds.popped armed' holds.records core core' (streams_left core core' leaves.leaves.lists same_item) s.views id v u at
+        (record { shape = refl; number = refl; arms = refl; records = refl; kept = refl })
         tails
         (record {
           items = items';
-          lists = lists_stay core core' holds.popped s.views id v u at leaves.same refl holds.views.lists;
+          chunks = chunks_stay core core' s.views id v u at leaves.leaves.lists.shape leaves.leaves.owners (λ f. refl) holds.views.chunks;
+          opens = opens_stay core core' s.views id v u at leaves.leaves.opened refl refl holds.views.opens;
+          lists = lists_stay core core' holds.popped s.views id v u at leaves.leaves.lists refl holds.views.lists;
           numbers = λ k. refl;
           works = says.works;
           counted = λ k. omega (arith, says.many k);
@@ -327,36 +271,18 @@ module _ {H : Type 0} (reply_of : List ℕ → Request → Reply) (shape : Shape
 
     pub puts : logical_tail n w < w.head + n → (armed' : ℕ → List ℕ) → OfWorks holds.popped armed' core' v u (set s.views id u) → (carried : List (ℕ × Option (Parcel H)))
         → IsMachineStep reply_of shape s holds step (stepped s (offset_of shape (slot_of shape queue side place)) (entry_of n place item) id carried u keeps)
-    puts room armed' says carried = record {
-      enabled = leaves.link.enabled;
-      after = record {
-        wide = omega (arith, holds.wide, length-set s.words (offset_of shape (slot_of shape queue side place)) (entry_of n place item));
-        core = core';
-        popped = holds.popped;
-        armed = armed';
-        records = holds.records;
-        shaped = leaves.same.shape ∙ holds.shaped;
-        keeps = record {
-          sound = leaves.link.sound;
-          items = by_role_stays core step holds.keeps.sound holds.keeps.items leaves.link.enabled;
-          seats = seats_by_role_stay core step holds.keeps.seats leaves.link.enabled;
-          order = says.order;
-        };
-        shows = leaves.link.shows;
-        notes = notes' room;
-        views = views' armed' says;
-        free = λ chunk lt is. holds.free chunk lt (sym (chunk_stays shape word word' (slot_of shape queue side place) (entry_of n place item) sets (λ k is_slot. absurd (cc is_slot)) chunk lt) ∙ is);
-        filled = filled_stay H reply_of holds.records holds.records core core' s.homes s.homes leaves.same.shape (λ q i has armed. let it = same_item q i in (it.tag, it.run, it.part, refl, λ chunk in_run. refl)) holds.filled;
-      };
-      is = refl;
-    }
+    puts room armed' says carried =
+        step_made reply_of shape s holds step words' s.homes (set s.views id u) holds.popped armed'
+        (omega (arith, holds.wide, length-set s.words (offset_of shape (slot_of shape queue side place)) (entry_of n place item))) leaves.link (leaves.leaves.lists.shape ∙ holds.shaped) says.order (notes' room) (views' armed' says)
+        (λ chunk lt is. holds.free chunk lt (sym (chunk_stays shape word word' (slot_of shape queue side place) (entry_of n place item) sets (λ k is_slot. absurd (cc is_slot)) chunk lt) ∙ is))
+        (filled_stay H reply_of holds.records holds.records core core' s.homes s.homes leaves.leaves.lists.shape (λ q i has armed. let it = same_item q i in (it.tag, it.run, it.part, refl, λ chunk in_run. refl)) holds.filled)
 
     -- where works stay
     pub still : new_works ≡ v.works → OtherStep step → OfWorks holds.popped holds.armed core' v u (set s.views id u)
     still same other = record {
-      works = works_stay core core' holds.armed s.views id v u at leaves.same refl same refl holds.views.works;
+      works = works_stay core core' holds.armed s.views id v u at leaves.leaves.lists refl same refl holds.views.works;
       many = λ k. ap (λ (l : List Work). cond {A = ℕ} (v.seat == k) (length l) 0) same;
-      in_work = in_work_stay core core' s.views id v u at leaves.same same holds.views.in_work;
+      in_work = in_work_stay core core' s.views id v u at leaves.leaves.lists same holds.views.in_work;
       order = others_in_order holds.popped holds.armed core step holds.keeps.sound holds.keeps.order other leaves.link.enabled;
     }
 
@@ -380,15 +306,13 @@ module _ {H : Type 0} (reply_of : List ℕ → Request → Reply) (shape : Shape
   below_n : item < length (queue_of holds.core queue).items
   below_n = inside reply_of shape s holds id v at new_works busy queue item place Line there mine may
 
-  pub push_leaves : Leaves (word_in shape put_words) holds.core (Push v.seat queue item place) queue item InLine
-  push_leaves =
+  pub push_left : Leaves (word_in shape put_words) holds.core (Push v.seat queue item place) queue item InLine
+  push_left =
       let core : Core = holds.core in
       record {
         link = made_step shape (word_in shape s.words) (word_in shape put_words) (Push v.seat queue item place) (sets reply_of shape s holds id v at new_works busy queue item place Line there mine may) core holds.shaped holds.keeps.sound holds.shows
             (record { fills = fills; hand = in_hand_now; armed = tagged; low = omega (arith, may.low); vacant = vacant reply_of shape s holds id v at new_works busy queue item place Line there mine may });
-        same = push_lists core v.seat queue item place;
-        owners = push_owner core v.seat queue item place;
-        opened = push_opened core v.seat queue item place;
+        leaves = push_leaves core v.seat queue item place;
         sets = sets_after_push core v.seat queue item place below_n;
         weightless = λ f i. refl;
       }
@@ -399,7 +323,7 @@ module _ {H : Type 0} (reply_of : List ℕ → Request → Reply) (shape : Shape
       let core : Core = holds.core in
       let off : is_in_line (item_of core queue item).whereabouts ≡ false = ap is_in_line in_hand_now in
       let short : length (queue_of core queue).line < length (queue_of core queue).items = list_has_room (queue_of core queue) is_in_line (queue_of core queue).line (holds.keeps.sound.held.queues queue).line item below_n off in
-      puts reply_of shape s holds id v at new_works busy queue item place Line there mine may (Push v.seat queue item place) InLine push_leaves
+      puts reply_of shape s holds id v at new_works busy queue item place Line there mine may (Push v.seat queue item place) InLine push_left
       (room_of (items_of shape queue) (ring_in (word_in shape s.words) queue Line) (queue_of core queue).line (queue_of core queue).next_line
       (subst (λ (sh : Shape). ShowsList (items_of sh queue) (ring_of (word_in shape s.words) queue LineSide) (queue_of core queue).line (queue_of core queue).next_line) holds.shaped (holds.shows.line queue (subst (λ (sh : Shape). queue < queues_of sh) (sym holds.shaped) there.in_queues)))
       (omega (arith, short, sized reply_of shape s holds id v at new_works busy queue item place Line there mine may)))
@@ -414,7 +338,7 @@ push_line H reply_of shape s holds id v carried at busy engine item place stream
     let tag : word_in shape s.words (Tag 0 item) ≡ stream = holds.notes.kept_tags 0 there.in_queues id v at item there.in_items mine stream (said, inr (engine, own)) in
     let tagged : word_in shape s.words (Tag 0 item) ≢ 0 = λ none. some_stream (sym tag ∙ none) in
     pushes reply_of shape s holds id v at v.works busy 0 item place there mine may fills tagged holds.armed
-    (still reply_of shape s holds id v at v.works busy 0 item place Line there mine may (Push v.seat 0 item place) InLine (push_leaves reply_of shape s holds id v at v.works busy 0 item place there mine may fills tagged) refl refl)
+    (still reply_of shape s holds id v at v.works busy 0 item place Line there mine may (Push v.seat 0 item place) InLine (push_left reply_of shape s holds id v at v.works busy 0 item place there mine may fills tagged) refl refl)
     carried
 
 pub give_item : (H : Type 0) → GiveItemLaw H
@@ -436,7 +360,7 @@ give_item H reply_of shape s holds id v carried at busy queue item place there m
       vacant = vacant reply_of shape s holds id v at v.works busy queue item place Free there mine may;
     }) in
     let leaves : Leaves (word_in shape words') core (GiveItem v.seat queue item place) queue item InFreeList =
-    record { link = link; same = give_lists core v.seat queue item place; owners = give_owner core v.seat queue item place; opened = give_opened core v.seat queue item place; sets = sets_after_give core v.seat queue item place below_n; weightless = λ f i. refl } in
+    record { link = link; leaves = give_leaves core v.seat queue item place; sets = sets_after_give core v.seat queue item place below_n; weightless = λ f i. refl } in
     puts reply_of shape s holds id v at v.works busy queue item place Free there mine may (GiveItem v.seat queue item place) InFreeList leaves
     (room_of (items_of shape queue) (ring_in word queue Free) (queue_of core queue).free (queue_of core queue).next_free
     (subst (λ (sh : Shape). ShowsList (items_of sh queue) (ring_of word queue FreeSide) (queue_of core queue).free (queue_of core queue).next_free) holds.shaped (holds.shows.free queue (subst (λ (sh : Shape). queue < queues_of sh) (sym holds.shaped) there.in_queues)))

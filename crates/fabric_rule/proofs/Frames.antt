@@ -1,6 +1,6 @@
 -- What a step leaves of the parts of the rule.
 use Rattle.unit_model.specs.declared.machine.Owner.{Owner}
-use Rattle.std.proofs.Common.{ℕ, ◌+◌, ◌*◌, ◌≡◌, ◌≢◌, ◌≤◌, ◌<◌, ◌⊎◌, inl, inr, ⊎_elim, set, sym, ap, ◌∙◌, subst, arith}
+use Rattle.std.proofs.Common.{ℕ, ◌+◌, ◌*◌, ◌≡◌, ◌≢◌, ◌≤◌, ◌<◌, ◌⊎◌, inl, inr, ⊎_elim, set, sym, ap, ◌∙◌, subst, arith, List}
 use Rattle.std.proofs.lemmas.Bool.{cases_eq}
 use Rattle.std.specs.List.{range_with_len}
 use Rattle.atomic_table.proofs.Lists.{at_set}
@@ -9,16 +9,21 @@ use Rattle.unit_model.specs.Holding.{items_of}
 use Rattle.unit_model.specs.Limits.{segment_chunks}
 use Rattle.unit_model.specs.Shapes.{role_in}
 use Rattle.unit_model.specs.Weights.{weigh, below}
+use Rattle.unit_model.specs.declared.machine.Core.{Core}
+use Rattle.unit_model.specs.declared.machine.Sides.{Sides}
 use Rattle.unit_model.specs.declared.machine.Whereabouts.{Whereabouts}
 use Rattle.unit_model.specs.declared.shape.Shape.{Shape}
 use Rattle.unit_model.proofs.Views.{sum_set}
 use Rattle.unit_model.proofs.Weights.{below_change, below_same}
 use Rattle.fabric_words.specs.Places.{queues_of, segments_of}
 use Rattle.fabric_rule.specs.FrameLaws.{ItemsStayLaw, ItemMovesLaw, ChunksStayLaw, ChunksMoveLaw, OfEachLaw, OfFabricStayLaw}
-use Rattle.fabric_rule.specs.Parts.{IsOfFabric, hand_weight, owner_weight}
-use Rattle.fabric_rule.specs.Views.{hand_at, chunks_at}
+use Rattle.fabric_rule.specs.Parts.{IsOfFabric, OfEach, OpensNoted, hand_weight, owner_weight}
+use Rattle.fabric_rule.specs.Views.{hand_at, chunks_at, open_noted}
+use Rattle.fabric_rule.specs.declared.event.Segments.TheVariants.{Out, Back}
 use Rattle.fabric_rule.specs.declared.view.FabricView.{FabricView}
 use Rattle.fabric_rule.proofs.Sums.{range_changes, sum_stays}
+use mathlib.Core.Option.{some}
+use lib.ListN.{get_elem?}
 
 pub of_each : (P P' : FabricView → Type 0) → OfEachLaw P P'
 of_each P P' views id u mine others old k y at = ⊎_elim (λ t. subst P' t.1 mine) (λ t. others y (old k y t.1)) (at_set views id k u y at)
@@ -33,6 +38,19 @@ of_fabric core core' views id v u at shape same seat old =
     })
     (λ y is. record { shape = is.shape ∙ sym shape; role = subst (λ (s : Shape). role_in s y.seat ≤ 1) (sym shape) is.role })
     old
+
+-- where no segment opens
+pub opens_same : (core core' : Core) → core'.opened ≡ core.opened → (y : FabricView) → OpensNoted core y → OpensNoted core' y
+opens_same core core' same y old = record {
+  out = subst (λ (o : Sides). open_noted Out y ≤ o.out) (sym same) old.out;
+  back = subst (λ (o : Sides). open_noted Back y ≤ o.back) (sym same) old.back;
+}
+
+pub opens_stay : (core core' : Core) (views : List FabricView) (id : ℕ) (v u : FabricView) → get_elem? views id ≡ some v → core'.opened ≡ core.opened → open_noted Out u ≡ open_noted Out v → open_noted Back u ≡ open_noted Back v
+    → OfEach (OpensNoted core) views → OfEach (OpensNoted core') (set views id u)
+opens_stay core core' views id v u at same out back old =
+    let mine : OpensNoted core' v = opens_same core core' same v (old id v at) in
+    of_each (OpensNoted core) (OpensNoted core') views id u (record { out = omega (arith, mine.out, out); back = omega (arith, mine.back, back) }) (opens_same core core' same) old
 
 -- ---- items
 

@@ -1,5 +1,5 @@
 -- The exchange of a free ring's head by a seat that fills the queue.
-use Rattle.std.proofs.Common.{ℕ, ◌+◌, ◌/◌, ◌%◌, ◌≡◌, ◌≢◌, ◌≤◌, ◌<◌, ◌==◌, eqb, List, [], slice_index, set, refl, sym, subst, arith}
+use Rattle.std.proofs.Common.{ℕ, ◌+◌, ◌%◌, ◌≡◌, ◌≢◌, ◌≤◌, ◌<◌, ◌==◌, eqb, List, [], slice_index, set, refl, sym, subst, arith}
 use Rattle.std.specs.Prelude.{Option}
 use Rattle.std.proofs.lemmas.List.{set-get_or}
 use mathlib.Core.Option.{some}
@@ -8,7 +8,7 @@ use lib.ListN.{get_elem?}
 use Rattle.atomic_table.specs.Table.{State, Act, keeps, stepped, Valid, carried_after}
 use Rattle.atomic_table.proofs.Lists.{exchanged, set_else, set_here}
 use Rattle.nncq_ring.specs.Words.{Words}
-use Rattle.nncq_ring.specs.declared.view.RingEvent.TheVariants.{SawEntry, SawHead}
+use Rattle.nncq_ring.specs.declared.view.RingEvent.TheVariants.{SawHead}
 use Rattle.nncq_ring.proofs.RingParts.{note_at}
 use Rattle.app_queue.specs.declared.side.Side.TheVariants.{Free}
 use Rattle.app_queue.proofs.ArmFrames.{is_there}
@@ -25,7 +25,7 @@ use Rattle.fabric_words.specs.declared.place.Place.TheVariants.{Head}
 use Rattle.fabric_words.specs.declared.place.Side.TheVariants.{FreeSide}
 use Rattle.fabric_rule.specs.Rule.{FabricHolds}
 use Rattle.fabric_rule.specs.Steps.{IsMachineStep, IsNoStep, with_got}
-use Rattle.fabric_rule.specs.Told.{Gets, Moment}
+use Rattle.fabric_rule.specs.Told.{Gets, Moment, SawFirst}
 use Rattle.fabric_rule.specs.Views.{log_at, logged, ring_in}
 use Rattle.fabric_rule.specs.declared.event.FabricEvent.TheVariants.{AtRing}
 use Rattle.fabric_rule.specs.declared.view.FabricView.{FabricView}
@@ -34,8 +34,7 @@ use Rattle.fabric_rule.proofs.GetSteps.{get_item}
 
 module _ {H : Type 0} (reply_of : List ℕ → Request → Reply) (shape : Shape) (id : ℕ) (v : FabricView) (carried : List (ℕ × Option (Parcel H))) (s : State (Option (Parcel H)) FabricView) (holds : FabricHolds reply_of shape s) (at : get_elem? s.views id ≡ some v)
     (busy : v.works ≢ []) (queue : ℕ) (there : queue < queues_of shape) (side_is : (role_in shape v.seat == 0) ≡ (queue == 0)) (place entry : ℕ)
-    (saw : get_elem? (log_at queue Free v) 0 ≡ some (SawEntry place entry)) (head : get_elem? (log_at queue Free v) 1 ≡ some (SawHead place))
-    (full : entry / items_of shape queue ≡ place / items_of shape queue) where
+    (first : SawFirst (items_of shape queue) (log_at queue Free v) place entry) where
   abbrev pub index : ℕ
   index = offset_of shape (Head queue FreeSide)
 
@@ -56,7 +55,7 @@ module _ {H : Type 0} (reply_of : List ℕ → Request → Reply) (shape : Shape
   hit : found ≡ place → After (place + 1)
   hit is =
       let u : FabricView = with_got queue item place v in
-      let step : IsMachineStep reply_of shape s holds (GetItem v.seat queue item place) (stepped s index (place + 1) id carried u keeps) = get_item H reply_of shape s holds id v carried at busy queue there side_is place entry saw full is in (
+      let step : IsMachineStep reply_of shape s holds (GetItem v.seat queue item place) (stepped s index (place + 1) id carried u keeps) = get_item H reply_of shape s holds id v carried at busy queue there side_is place entry first.saw first.full is in (
         u,
         keeps,
         tt,
@@ -67,7 +66,7 @@ module _ {H : Type 0} (reply_of : List ℕ → Request → Reply) (shape : Shape
   miss : found ≢ place → After found
   miss ne =
       let w : Words = ring_in (word_in shape s.words) queue Free in
-      let noted : place ≤ w.head = note_at (items_of shape queue) w (log_at queue Free v) 1 (SawHead place) head ((holds.notes.rings.rings queue there Free).noted id v at) in
+      let noted : place ≤ w.head = note_at (items_of shape queue) w (log_at queue Free v) 1 (SawHead place) first.head ((holds.notes.rings.rings queue there Free).noted id v at) in
       let u : FabricView = logged (AtRing queue Free (SawHead found)) v in
       let words : set s.words index found ≡ s.words = set-get_or s.words index 0 in
       let least : found ≤ w.head = omega arith in

@@ -1,5 +1,5 @@
 -- A tail is moved on.
-use Rattle.std.proofs.Common.{ℕ, ◌+◌, ◌/◌, ◌%◌, ◌≡◌, ◌≢◌, ◌≤◌, ◌<◌, inl, inr, ⊎_elim, eqb, false, List, set, slice_index, Some, refl, sym, ap, ◌∙◌, subst, arith, length-set}
+use Rattle.std.proofs.Common.{⊎_elim, ℕ, ◌+◌, ◌/◌, ◌%◌, ◌≡◌, ◌≢◌, ◌≤◌, ◌<◌, inl, inr, eqb, List, ◌∷◌, set, slice_index, refl, sym, ap, ◌∙◌, subst, arith, length-set}
 use Rattle.std.specs.Prelude.{Option}
 use Rattle.std.proofs.lemmas.Bool.{cases_eq}
 use Rattle.std.proofs.lemmas.List.{set-get_or}
@@ -12,16 +12,12 @@ use Rattle.nncq_ring.specs.Notes.{Noted, RingPart}
 use Rattle.nncq_ring.specs.Words.{SetsTail, Words, logical_tail}
 use Rattle.nncq_ring.specs.declared.view.RingEvent.{RingEvent}
 use Rattle.nncq_ring.specs.declared.view.RingEvent.TheVariants.{SawTail, SawHead, SawEntry, Pushed, Popped}
-use Rattle.nncq_ring.proofs.Exchanges.{helped_tail}
+use Rattle.nncq_ring.proofs.Exchanges.{helped_tail, tail_cases}
 use Rattle.nncq_ring.proofs.Noting.{may_help}
 use Rattle.nncq_ring.proofs.RingParts.{note_at, part_helps}
-use Rattle.app_queue.specs.Queues.{IsOther}
-use Rattle.app_queue.specs.Views.{last_tag, last_run, last_part, is_armed}
 use Rattle.app_queue.specs.declared.side.Side.{Side}
 use Rattle.app_queue.specs.declared.side.Side.TheVariants.{Free, Line}
-use Rattle.app_queue.specs.declared.view.ItemEvent.{ItemEvent}
-use Rattle.app_queue.proofs.ArmFrames.{arms_stay, is_there}
-use Rattle.app_queue.proofs.KnownFrames.{tags_known, words_known}
+use Rattle.app_queue.proofs.ArmFrames.{is_there}
 use Rattle.app_queue.proofs.RingFrames.{rings_step}
 use Rattle.request_context.specs.declared.piece.Parcel.{Parcel}
 use Rattle.unit_model.specs.Holding.{items_of}
@@ -30,23 +26,25 @@ use Rattle.unit_model.specs.declared.shape.Shape.{Shape}
 use Rattle.unit_types.specs.declared.message.Reply.{Reply}
 use Rattle.unit_types.specs.declared.message.Request.{Request}
 use Rattle.fabric_words.specs.Offsets.{offset_of, word_in}
-use Rattle.fabric_words.specs.Places.{Sets, is_of_ring, queues_of}
+use Rattle.fabric_words.specs.Places.{Sets, queues_of}
 use Rattle.fabric_words.specs.Shown.{Shows}
 use Rattle.fabric_words.specs.declared.place.Place.{Place}
-use Rattle.fabric_words.specs.declared.place.Place.TheVariants.{Head, PartWord, RunWord, Slot, Tag, Tail}
-use Rattle.fabric_words.specs.declared.place.Side.TheVariants.{FreeSide, LineSide}
+use Rattle.fabric_words.specs.declared.place.Place.TheVariants.{Head, Slot, Tail}
+use Rattle.fabric_words.specs.declared.place.Side.TheVariants.{FreeSide}
 use Rattle.fabric_words.proofs.EachStep.{tail_helped}
-use Rattle.fabric_words.proofs.Frames.{chunk_stays, other_queue, other_side, ring_stays}
+use Rattle.fabric_words.proofs.Frames.{chunk_stays, ring_stays}
 use Rattle.fabric_words.proofs.Standing.{set_word}
+use Rattle.fabric_rule.specs.Logs.{looked_log, own_log}
 use Rattle.fabric_rule.specs.Rule.{FabricHolds, NotesAreTrue}
 use Rattle.fabric_rule.specs.Steps.{HelpLaw, IsEndAbove, IsNoStep}
 use Rattle.fabric_rule.specs.Told.{Helps, Moment}
-use Rattle.fabric_rule.specs.Views.{arms_at, got_at, held_at, item_log, log_at, logged, part_in, part_said, queues_in, ring_in, run_in, run_said, tag_in, tag_kept, tag_said, word_side}
+use Rattle.fabric_rule.specs.Views.{item_log, log_at, logged, queues_in, ring_in, word_side}
 use Rattle.fabric_rule.specs.declared.event.FabricEvent.TheVariants.{AtRing}
 use Rattle.fabric_rule.specs.declared.view.FabricView.{FabricView}
 use Rattle.fabric_rule.proofs.Logged.{moves_on}
 use Rattle.fabric_rule.proofs.LookSteps.{look}
-use Rattle.fabric_rule.proofs.Logs.{looked_log, other_log, own_log}
+use Rattle.fabric_rule.proofs.Logs.{other_log, off_ring}
+use Rattle.fabric_rule.proofs.ItemNotes.{ItemsStill, items_noted, still_beside}
 
 -- what the event says, where it is true of the ring
 is_above : (n place : ℕ) (w : Words) (e : RingEvent) → IsEndAbove n place e → Noted n w e → place < logical_tail n w
@@ -108,41 +106,21 @@ module _ {H : Type 0} (reply_of : List ℕ → Request → Reply) (shape : Shape
     entries = λ j lt. sets.others (Slot queue (word_side side) j) (record { in_queues = there; in_items = lt }) (λ is. absurd (cc is));
   }
 
-  off_ring : (s1 : Side) (r : ℕ) (other : Side) → IsOther queue s1 r other → is_of_ring r (word_side other) (Tail queue (word_side s1)) ≡ false
-  off_ring Free r Free apart = ⊎_elim (λ ne. other_queue r queue FreeSide FreeSide ne) (λ ne. absurd (ne refl)) apart
-  off_ring Free r Line apart = other_side r queue LineSide FreeSide refl
-  off_ring Line r Free apart = other_side r queue FreeSide LineSide refl
-  off_ring Line r Line apart = ⊎_elim (λ ne. other_queue r queue LineSide LineSide ne) (λ ne. absurd (ne refl)) apart
-
   same_items : (r : ℕ) → item_log r u.log ≡ item_log r v.log
   same_items r = looked_log queue side e v.log r tt
 
   notes' : NotesAreTrue shape word' (set s.views id u)
   notes' =
       let old = holds.notes in
-      record {
-        rings = rings_step FabricView log_at (queues_in shape) (ring_in word) (ring_in word') s.views id v u at queue side
-            (λ r lt other apart. ring_stays shape word word' (Tail queue (word_side side)) (place + 1) sets r (word_side other) lt (off_ring side r other apart))
-            (λ r lt other apart. other_log queue side e v.log r other apart)
-            (part_helps n (log_at queue side) w s.views id v at part w' u place end_above found (own_log queue side e v.log) tail_sets)
-            (omega (arith, old.rings.worn queue there side, helped_tail n w w' part.fine full tail_sets))
-            old.rings;
-        tags = tags_known FabricView tag_said held_at (queues_in shape) (tag_in word) (tag_in word') s.views id v u at (λ q lt i below_n. sets.others (Tag q i) (record { in_queues = lt; in_items = below_n }) (λ is. absurd (cc is)))
-            (λ q i mine. (mine, λ x told. subst (λ (es : List ItemEvent). last_tag i es ≡ Some x) (same_items q) told)) old.tags;
-        kept_tags = words_known FabricView (tag_kept shape) held_at (queues_in shape) (tag_in word) (tag_in word') s.views id v u at (λ q lt i below_n. sets.others (Tag q i) (record { in_queues = lt; in_items = below_n }) (λ is. absurd (cc is)))
-            (λ q i mine. (mine, λ x told. (subst (λ (es : List ItemEvent). last_tag i es ≡ Some x) (same_items q) told.0, told.1))) old.kept_tags;
-        runs = words_known FabricView run_said held_at (queues_in shape) (run_in word) (run_in word') s.views id v u at (λ q lt i below_n. sets.others (RunWord q i) (record { in_queues = lt; in_items = below_n }) (λ is. absurd (cc is)))
-            (λ q i mine. (mine, λ x told. subst (λ (es : List ItemEvent). last_run i es ≡ Some x) (same_items q) told)) old.runs;
-        parts = words_known FabricView part_said held_at (queues_in shape) (part_in word) (part_in word') s.views id v u at (λ q lt i below_n. sets.others (PartWord q i) (record { in_queues = lt; in_items = below_n }) (λ is. absurd (cc is)))
-            (λ q i mine. (mine, λ x told. subst (λ (es : List ItemEvent). last_part i es ≡ Some x) (same_items q) told)) old.parts;
-        arms = λ q lt.
-            let heads : word' (Head q FreeSide) ≡ word (Head q FreeSide) = sets.others (Head q FreeSide) lt (λ is. absurd (cc is)) in
-            arms_stay FabricView (got_at q) (arms_at q) (held_at q) (items_of shape q) (word (Head q FreeSide)) (word' (Head q FreeSide)) (tag_in word q) (tag_in word' q) (run_in word q) (run_in word' q) (part_in word q) (part_in word' q) s.views id v u at
-            (omega (arith, heads))
-            (λ i below_n. inr (sets.others (Tag q i) (record { in_queues = lt; in_items = below_n }) (λ is. absurd (cc is)), sets.others (RunWord q i) (record { in_queues = lt; in_items = below_n }) (λ is. absurd (cc is)), sets.others (PartWord q i) (record { in_queues = lt; in_items = below_n }) (λ is. absurd (cc is))))
-            refl
-            (λ i mine p got. (mine, (got.0, subst (λ (es : List ItemEvent). is_armed i es ≡ false) (same_items q) got.1))) (old.arms q lt);
-      }
+      let still : ItemsStill shape word word' = still_beside shape word word' (Tail queue (word_side side)) (place + 1) sets (λ q i. ((λ is. absurd (cc is)), (λ is. absurd (cc is)), (λ is. absurd (cc is)))) in
+      items_noted shape word word' still (λ q lt. omega (arith, sets.others (Head q FreeSide) lt (λ is. absurd (cc is)))) s.views id v at v.ledgers v.works v.chunks v.items v.kept (AtRing queue side e ∷ v.log) (λ q i mine. mine) (λ q i p got. got) same_items
+      (rings_step FabricView log_at (queues_in shape) (ring_in word) (ring_in word') s.views id v u at queue side
+      (λ r lt other apart. ring_stays shape word word' (Tail queue (word_side side)) (place + 1) sets r (word_side other) lt (off_ring queue side r other apart))
+      (λ r lt other apart. other_log queue side e v.log r other apart)
+      (part_helps n (log_at queue side) w s.views id v at part w' u place end_above found (own_log queue side e v.log) tail_sets)
+      (omega (arith, old.rings.worn queue there side, helped_tail n w w' part.fine full tail_sets))
+      old.rings)
+      old
 
   rises : (s1 : Side) → s1 ≡ side → (q : ℕ) → q < queues_of shape → word (Tail q FreeSide) ≤ word' (Tail q FreeSide)
   rises Line is q lt =
@@ -169,8 +147,7 @@ help H reply_of shape s holds id v carried at queue side place there k e in_log 
 -- ---- on the table
 
 module _ {H : Type 0} (reply_of : List ℕ → Request → Reply) (shape : Shape) (id : ℕ) (v : FabricView) (carried : List (ℕ × Option (Parcel H))) (s : State (Option (Parcel H)) FabricView) (holds : FabricHolds reply_of shape s) (at : get_elem? s.views id ≡ some v)
-    (queue : ℕ) (side : Side) (place : ℕ) (there : queue < queues_of shape) (end_at : ℕ) (end_event : RingEvent) (end_in : get_elem? (log_at queue side v) end_at ≡ some end_event) (above : IsEndAbove (items_of shape queue) place end_event)
-    (tail_at : ℕ) (saw : get_elem? (log_at queue side v) tail_at ≡ some (SawTail place)) where
+    (queue : ℕ) (side : Side) (place : ℕ) (there : queue < queues_of shape) (end_at : ℕ) (end_event : RingEvent) (end_in : get_elem? (log_at queue side v) end_at ≡ some end_event) (above : IsEndAbove (items_of shape queue) place end_event) where
   abbrev pub index : ℕ
   index = offset_of shape (Tail queue (word_side side))
 
@@ -198,7 +175,9 @@ module _ {H : Type 0} (reply_of : List ℕ → Request → Reply) (shape : Shape
   miss : now ≢ place → After now
   miss ne =
       let w : Words = ring_in (word_in shape s.words) queue side in
-      let noted : place ≤ w.tail = note_at (items_of shape queue) w (log_at queue side v) tail_at (SawTail place) saw ((holds.notes.rings.rings queue there side).noted id v at) in
+      let n : ℕ = items_of shape queue in
+      let end_above : place < logical_tail n w = is_above n place w end_event above (note_at n w (log_at queue side v) end_at end_event end_in ((holds.notes.rings.rings queue there side).noted id v at)) in
+      let noted : place ≤ w.tail = ⊎_elim (λ is. omega (arith, is, end_above)) (λ is. omega (arith, is, end_above)) (tail_cases n w) in
       let u : FabricView = logged (AtRing queue side (SawTail now)) v in
       let words : set s.words index now ≡ s.words = set-get_or s.words index 0 in
       let least : now ≤ w.tail = omega arith in

@@ -12,7 +12,6 @@ use Rattle.std.proofs.lemmas.Bool.{eq-eqb, ne_eqb}
 use Rattle.app_queue.proofs.ArmFrames.{arms_stay}
 use Rattle.app_queue.proofs.KnownFrames.{tags_known, tags_known_one, words_known, words_known_one}
 use Rattle.app_queue.proofs.QueueViews.{told_else, told_here}
-use Rattle.app_queue.proofs.RingFrames.{rings_stay}
 use Rattle.request_context.specs.declared.piece.Parcel.{Parcel}
 use Rattle.unit_model.specs.Holding.{items_of}
 use Rattle.unit_model.specs.declared.machine.Core.{Core}
@@ -26,10 +25,11 @@ use Rattle.fabric_words.specs.declared.place.Place.TheVariants.{Head, PartWord, 
 use Rattle.fabric_words.specs.declared.place.Side.TheVariants.{FreeSide}
 use Rattle.fabric_rule.specs.Rule.{FabricHolds, NotesAreTrue}
 use Rattle.fabric_rule.specs.Steps.{IsItemLook, IsNoStep, ItemLookLaw}
-use Rattle.fabric_rule.specs.Views.{arms_at, got_at, held_at, item_log, log_at, logged, part_in, part_said, queues_in, ring_in, run_in, run_said, tag_in, tag_kept, tag_said}
+use Rattle.fabric_rule.specs.Views.{arms_at, got_at, held_at, item_log, logged, part_in, part_said, queues_in, run_in, run_said, tag_in, tag_kept, tag_said}
 use Rattle.fabric_rule.specs.declared.event.FabricEvent.TheVariants.{AtItem}
 use Rattle.fabric_rule.specs.declared.view.FabricView.{FabricView}
 use Rattle.fabric_rule.proofs.Logged.{logs}
+use Rattle.fabric_rule.proofs.ItemNotes.{rings_kept}
 
 -- what a look at an item notes of other words, and of other items, it noted before
 module _ {H : Type 0} (reply_of : List ℕ → Request → Reply) (shape : Shape) (s : State (Option (Parcel H)) FabricView) (holds : FabricHolds reply_of shape s) (id : ℕ) (v : FabricView) (at : get_elem? s.views id ≡ some v)
@@ -112,7 +112,7 @@ module _ {H : Type 0} (reply_of : List ℕ → Request → Reply) (shape : Shape
       → WordsKnown held_at run_said (queues_in shape) (run_in word) (set s.views id (after e)) → WordsKnown held_at part_said (queues_in shape) (part_in word) (set s.views id (after e))
       → NotesAreTrue shape word (set s.views id (after e))
   noted e unarmed tags kept_tags runs parts = record {
-    rings = rings_stay FabricView log_at (queues_in shape) (ring_in word) (ring_in word) s.views id v (after e) at (λ q lt side. record { head = refl; tail = refl; entries = λ j below_n. refl }) (λ q side. refl) holds.notes.rings;
+    rings = rings_kept shape word s.views id v (after e) at (λ q side. refl) holds.notes.rings;
     tags = tags;
     kept_tags = kept_tags;
     runs = runs;

@@ -35,7 +35,7 @@ use Rattle.fabric_rule.specs.Parts.{IsEmptyHanded, IsIdle, IsOfFabric, IsPosting
 use Rattle.fabric_rule.specs.Rule.{FabricHolds, NotesAreTrue, ViewsShow}
 use Rattle.fabric_rule.specs.Seats.{HasItsArm, MayJoin, together}
 use Rattle.fabric_rule.specs.Steps.{IsNoStep}
-use Rattle.fabric_rule.specs.Views.{arms_at, chunks_at, draw_at, draw_weight, emptied_by, empty, got_at, hand_at, held_at, lists_at, log_at, opens_at, part_in, part_said, posts_at, posts_of, queues_in, ring_in, run_in, run_said, tag_in, tag_kept, tag_said, take_weight, words_in, works_at}
+use Rattle.fabric_rule.specs.Views.{arms_at, chunks_at, draw_at, draw_weight, emptied_by, empty, got_at, hand_at, held_at, lists_at, log_at, opens_at, part_in, part_said, posts_at, posts_of, queues_in, ring_in, run_in, run_said, tag_in, tag_kept, tag_said, take_weight, words_in, works_at, records_at}
 use Rattle.fabric_rule.specs.declared.view.ArmNote.{ArmNote}
 use Rattle.fabric_rule.specs.declared.view.FabricView.{FabricView}
 use Rattle.fabric_rule.specs.declared.view.HeldItem.{HeldItem}
@@ -48,9 +48,11 @@ use Rattle.fabric_rule.proofs.Cutting.{re_armed, sum_chosen}
 use Rattle.fabric_rule.proofs.KeyedSteps.{keyed_join}
 use Rattle.fabric_rule.proofs.LatestArms.{streams_same}
 use Rattle.fabric_rule.proofs.Hands.{nothing_of}
+use Rattle.fabric_rule.proofs.RuleSteps.{views_change}
 use Rattle.fabric_rule.proofs.OwnViews.{has_posts}
 use Rattle.fabric_rule.proofs.Sharing.{among, among_weighs}
 use Rattle.fabric_rule.proofs.Sums.{each_gives}
+use Rattle.fabric_rule.specs.declared.view.Posting.{Posting}
 
 -- so of each view, where it is so of the two that are left
 pub merged_each : (P : FabricView → Type 0) (views : List FabricView) (id other : ℕ) (both spent : FabricView) → P both → P spent → OfEach P views → OfEach P (merged views id both other spent)
@@ -274,6 +276,7 @@ module _ {H : Type 0} (reply_of : List ℕ → Request → Reply) (shape : Shape
         streams = streams_same core s.views views' (λ f. sums (λ (y : FabricView). weigh f y.arms) (omega (arith, weigh-append f v.arms w.arms)))
             (λ q lt i p. (holds.notes.arms q (subst (λ (sh : Shape). q < queues_of sh) holds.shaped lt)).once i p) old.streams;
         records_known = each (RecordsKnown core holds.records) (each_append (IsPosting core holds.records) v.records w.records (old.records_known id v at) (old.records_known other w also)) tt old.records_known;
+        records_there = λ k was. omega (arith, old.records_there k was, sums (records_at k) (omega (arith, weigh-append (λ (p : Posting). is_number k p.stream) v.records w.records)));
         lists = lists';
         lists_there = λ number lt. omega (arith, old.lists_there number lt, sums (lists_at number) (omega (arith, weigh-append (λ (c : Ledger). is_number number c.seat) v.ledgers w.ledgers)));
         works = record { draws = keyed draw_weight old.works.draws; takes = keyed take_weight old.works.takes };
@@ -288,20 +291,4 @@ module _ {H : Type 0} (reply_of : List ℕ → Request → Reply) (shape : Shape
       first_role = rw (lt-ltb 0 core.shape.engines (omega (arith, holds.keeps.sound.held.shape.shape.engines.0))) (omega arith)
 
   pub joins : IsNoStep reply_of shape s holds (record s { views = views' })
-  joins = record {
-    after = record {
-      wide = holds.wide;
-      core = core;
-      popped = holds.popped;
-      armed = holds.armed;
-      records = holds.records;
-      shaped = holds.shaped;
-      keeps = holds.keeps;
-      shows = holds.shows;
-      notes = notes';
-      views = shown;
-      free = holds.free;
-      filled = holds.filled;
-    };
-    is = refl;
-  }
+  joins = views_change reply_of shape s holds views' notes' shown

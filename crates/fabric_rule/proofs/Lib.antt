@@ -16,6 +16,7 @@ pub mod ClaimSteps
 pub mod CloseSteps
 pub mod Contents
 pub mod CoreIs
+pub mod CoreSteps
 pub mod Cutting
 pub mod DrawSteps
 pub mod EntrySteps
@@ -25,10 +26,13 @@ pub mod Getting
 pub mod Hands
 pub mod Helping
 pub mod ItemLooks
+pub mod ItemNotes
 pub mod ItemStores
 pub mod Joining
 pub mod KeyedSteps
+pub mod LaneSteps
 pub mod LatestArms
+pub mod Ledgers
 pub mod ListFrames
 pub mod Loads
 pub mod Logged
@@ -38,6 +42,7 @@ pub mod NextExchange
 pub mod Noting
 pub mod OpenExchange
 pub mod OpenSteps
+pub mod OpenWords
 pub mod OwnViews
 pub mod PartPuts
 pub mod Passing
@@ -46,8 +51,11 @@ pub mod Popping
 pub mod Putting
 pub mod Rearming
 pub mod ReceiveSteps
+pub mod Records
 pub mod ReleaseSteps
+pub mod RingMoments
 pub mod RingValues
+pub mod RuleSteps
 pub mod SeatSteps
 pub mod SeatViews
 pub mod SendSteps
@@ -55,10 +63,15 @@ pub mod SendStore
 pub mod SettleSteps
 pub mod Settled
 pub mod Sharing
+pub mod SideSlots
 pub mod SlotLoads
 pub mod Staying
 pub mod StoreSteps
 pub mod Sums
 pub mod TakeSteps
+pub mod TakenItems
 pub mod Taking
+pub mod TestParcels
+pub mod TestSeats
+pub mod TurnsTold
 pub mod UnderWay

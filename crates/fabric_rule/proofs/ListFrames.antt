@@ -11,11 +11,11 @@ use Rattle.unit_model.specs.Weights.{weigh, is_number, over_all, times}
 use Rattle.unit_model.specs.declared.machine.Core.{Core}
 use Rattle.unit_model.specs.declared.machine.Seat.{Seat as SeatLists}
 use Rattle.unit_model.specs.declared.shape.Shape.{Shape}
-use Rattle.unit_model.proofs.Views.{sum_set}
+use Rattle.unit_model.proofs.Views.{sum_set, sum_at}
 use Rattle.fabric_words.specs.Places.{HasItem}
-use Rattle.fabric_rule.specs.FrameLaws.{SameLists, PostsStayLaw, StreamsStayLaw, RecordsStayLaw, ListsStayLaw, ListsThereLaw, WorksStayLaw, CountedStayLaw, InWorkStayLaw}
+use Rattle.fabric_rule.specs.FrameLaws.{SameLists, SamePosts, PostsStayLaw, StreamsStayLaw, RecordsStayLaw, ListsStayLaw, ListsThereLaw, WorksStayLaw, CountedStayLaw, InWorkStayLaw, RecordsThereLaw}
 use Rattle.fabric_rule.specs.Parts.{IsPosting, IsOwn, IsCause, IsRefused, IsTrueLedger, ShowsLists, KnowsDrawn, KnowsPosted, KnowsTaken, KnowsSending, KnowsWork, ShowsWorks, AwaitsReply, filled_in}
-use Rattle.fabric_rule.specs.Views.{all_arms, arms_among, latest_arm, stream_of_arm, posts_at, lists_at, opens_at, works_at, draw_at, draw_weight, take_weight}
+use Rattle.fabric_rule.specs.Views.{all_arms, arms_among, latest_arm, stream_of_arm, posts_at, lists_at, opens_at, works_at, draw_at, draw_weight, take_weight, records_at}
 use Rattle.fabric_rule.specs.declared.cause.Cause.{Cause}
 use Rattle.fabric_rule.specs.declared.cause.Cause.TheVariants.{NoChunks, NoItem, Worn}
 use Rattle.fabric_rule.specs.declared.cause.Refusal.{Refusal}
@@ -28,11 +28,12 @@ use Rattle.fabric_rule.specs.declared.view.Work.TheVariants.{Drawn, Posted, Take
 use Rattle.fabric_rule.specs.Keyed.{Keyed}
 use Rattle.fabric_rule.proofs.KeyedSteps.{keyed_step}
 use Rattle.fabric_rule.proofs.Sums.{each_gives, sum_stays}
+use Rattle.std.proofs.lemmas.Bool.{cases_lt}
 
 pub same_seat : (core core' : Core) → SameLists core core' → (seat : ℕ) → seat_of core' seat ≡ seat_of core seat
 same_seat core core' same seat = ap (λ (l : List SeatLists). get_or l seat no_seat) same.seats
 
-pub same_posted : (core core' : Core) → SameLists core core' → (stream : ℕ) → by_all posted core' stream ≡ by_all posted core stream
+pub same_posted : (core core' : Core) → SameLists core core' → SamePosts core core'
 same_posted core core' same stream = ap (over_all (is_number stream) posted) same.seats
 
 -- ---- refusals
@@ -118,12 +119,19 @@ works_stay core core' armed views id v u at same seat works arms old = record {
 pub posts_stay : PostsStayLaw
 posts_stay core core' views id v u at same arms old stream =
     sum_stays (posts_at stream) views id v u at (ap (λ (l : List ArmNote). weigh (λ (a : Arm). is_number stream a.stream) (arms_among 0 l)) arms)
-    ∙ old stream ∙ sym (same_posted core core' same stream)
+    ∙ old stream ∙ sym (same stream)
 
 pub records_stay : RecordsStayLaw
 records_stay core core' records v u same kept old =
     subst (λ (l : List Posting). Each (IsPosting core' records) l) (sym kept)
-    (each_gives (IsPosting core records) (IsPosting core' records) v.records (λ p is. record { same = is.same; was = omega (arith, is.was, same_posted core core' same p.stream) }) old)
+    (each_gives (IsPosting core records) (IsPosting core' records) v.records (λ p is. record { same = is.same; was = omega (arith, is.was, same p.stream) }) old)
+
+pub records_there : RecordsThereLaw
+records_there core core' views id v u at posts kept old stream is =
+    elim (cases_lt 0 (by_all posted core stream)) [
+      | inl was ↦ omega (arith, old stream (omega (arith, was)), kept stream, sum_set (records_at stream) views id v u at)
+      | inr none ↦ omega (arith, is, posts stream, none, sum_set (records_at stream) views id v u at, sum_at (records_at stream) views id v at)
+    ]
 
 pub counted_stay : CountedStayLaw
 counted_stay views id v u at same old number = omega (arith, old number, same number, sum_set (opens_at number) views id v u at, sum_set (works_at number) views id v u at)

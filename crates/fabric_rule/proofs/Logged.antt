@@ -24,8 +24,10 @@ use Rattle.fabric_rule.specs.Views.{chunks_at, item_log, log_at, logged}
 use Rattle.fabric_rule.specs.declared.event.FabricEvent.{FabricEvent}
 use Rattle.fabric_rule.specs.declared.view.FabricView.{FabricView}
 use Rattle.carried_slots.specs.FreeSlots.{FreeSlots}
-use Rattle.fabric_rule.proofs.Beside.{TailsRise, notes_beside, views_beside}
+use Rattle.fabric_rule.proofs.Beside.{notes_beside, views_beside}
+use Rattle.fabric_rule.proofs.Staying.{TailsRise}
 use Rattle.fabric_rule.proofs.Frames.{of_each}
+use Rattle.fabric_rule.proofs.RuleSteps.{words_change}
 use Rattle.fabric_rule.proofs.Sums.{sum_stays}
 
 module _ {H : Type 0} (reply_of : List ℕ → Request → Reply) (shape : Shape) (s : State (Option (Parcel H)) FabricView) (holds : FabricHolds reply_of shape s) (id : ℕ) (v : FabricView) (at : get_elem? s.views id ≡ some v)
@@ -55,23 +57,7 @@ module _ {H : Type 0} (reply_of : List ℕ → Request → Reply) (shape : Shape
   -- where words change that don't change the core
   pub moves_on : (words' : List ℕ) → width_of shape ≤ length words' → Shows (word_in shape words') core → TailsRise core.shape word (word_in shape words') → FreeSlots (segment_chunks * segments_of shape) (map_of (word_in shape words')) s.homes
       → NotesAreTrue shape (word_in shape words') (set s.views id u) → OpensNoted core u → IsNoStep reply_of shape s holds (record { words = words'; homes = s.homes; views = set s.views id u })
-  moves_on words' wide shows tails free notes opens = record {
-    after = record {
-      wide = wide;
-      core = core;
-      popped = holds.popped;
-      armed = holds.armed;
-      records = holds.records;
-      shaped = holds.shaped;
-      keeps = holds.keeps;
-      shows = shows;
-      notes = notes;
-      views = shown (word_in shape words') tails opens;
-      free = free;
-      filled = holds.filled;
-    };
-    is = refl;
-  }
+  moves_on words' wide shows tails free notes opens = words_change reply_of shape s holds words' (set s.views id u) wide shows free notes (shown (word_in shape words') tails opens)
 
   pub logs : NotesAreTrue shape word (set s.views id u) → OpensNoted core u → IsNoStep reply_of shape s holds (record s { views = set s.views id u })
   logs notes opens = moves_on s.words holds.wide holds.shows (λ q lt. omega arith) holds.free notes opens

@@ -1,28 +1,22 @@
--- What one event more makes of a log.
-use Rattle.std.proofs.Common.{ℕ, ◌≡◌, ◌==◌, ◌&&◌, inl, inr, Bool, true, false, cond, List, ◌∷◌, refl, sym, ap, ◌∙◌}
-use Rattle.std.proofs.lemmas.Bool.{eq-eqb, ne_eqb}
-use Rattle.nncq_ring.specs.Turns.{IsLook}
+-- What one event more at a ring makes of what was noted of other rings.
+use Rattle.std.proofs.Common.{ℕ, ◌≡◌, ◌==◌, ◌&&◌, inl, inr, ⊎_elim, Bool, true, false, cond, List, ◌∷◌, refl, sym, ap}
+use Rattle.std.proofs.lemmas.Bool.{ne_eqb}
 use Rattle.nncq_ring.specs.declared.view.RingEvent.{RingEvent}
-use Rattle.nncq_ring.specs.declared.view.RingEvent.TheVariants.{SawTail, SawHead, SawEntry, Pushed, Popped}
 use Rattle.app_queue.specs.Queues.{IsOther}
-use Rattle.app_queue.specs.Views.{items_after}
 use Rattle.app_queue.specs.declared.side.Side.{Side}
 use Rattle.app_queue.specs.declared.side.Side.TheVariants.{Free, Line}
-use Rattle.app_queue.specs.declared.view.ItemEvent.{ItemEvent}
-use Rattle.fabric_rule.specs.Views.{is_side, item_log, ring_log}
+use Rattle.fabric_words.specs.Places.{is_same_side}
+use Rattle.fabric_words.specs.declared.place.Side.TheVariants.{FreeSide, LineSide}
+use Rattle.fabric_words.proofs.Frames.{other_queue, other_side}
+use Rattle.fabric_rule.specs.Views.{is_side, ring_log, word_side}
 use Rattle.fabric_rule.specs.declared.event.FabricEvent.{FabricEvent}
 use Rattle.fabric_rule.specs.declared.event.FabricEvent.TheVariants.{AtRing}
-
--- the event stands in front of what the seat noted of its ring
-pub own_log : (queue : ℕ) (side : Side) (e : RingEvent) (es : List FabricEvent) → ring_log queue side (AtRing queue side e ∷ es) ≡ e ∷ ring_log queue side es
-own_log queue Free e es = ap (λ (b : Bool). cond (b && true) (e ∷ ring_log queue Free es) (ring_log queue Free es)) (eq-eqb queue queue refl)
-own_log queue Line e es = ap (λ (b : Bool). cond (b && true) (e ∷ ring_log queue Line es) (ring_log queue Line es)) (eq-eqb queue queue refl)
 
 off_side : (b : Bool) (xs ys : List RingEvent) → cond (b && false) xs ys ≡ ys
 off_side true xs ys = refl
 off_side false xs ys = refl
 
--- and of no other
+-- it is of no other ring
 pub other_log : (queue : ℕ) (side : Side) (e : RingEvent) (es : List FabricEvent) (r : ℕ) (other : Side) → IsOther queue side r other → ring_log r other (AtRing queue side e ∷ es) ≡ ring_log r other es
 other_log queue side e es r other (inl ne) = ap (λ (b : Bool). cond (b && is_side side other) (e ∷ ring_log r other es) (ring_log r other es)) (ne_eqb queue r (λ is. ne (sym is)))
 other_log queue Free e es r Free (inr ne) = absurd (ne refl)
@@ -30,17 +24,9 @@ other_log queue Free e es r Line (inr ne) = off_side (queue == r) (e ∷ ring_lo
 other_log queue Line e es r Free (inr ne) = off_side (queue == r) (e ∷ ring_log r Free es) (ring_log r Free es)
 other_log queue Line e es r Line (inr ne) = absurd (ne refl)
 
-looked_items : (side : Side) (e : RingEvent) (items : List ItemEvent) → IsLook e → items_after side e items ≡ items
-looked_items side (SawTail tail) items look = refl
-looked_items side (SawHead head) items look = refl
-looked_items side (SawEntry place entry) items look = refl
-looked_items side (Pushed place value) items look = absurd (look tt)
-looked_items side (Popped place value) items look = absurd (look tt)
-
-same_both : (b : Bool) (xs : List ItemEvent) → cond b xs xs ≡ xs
-same_both true xs = refl
-same_both false xs = refl
-
--- a look is of no item
-pub looked_log : (queue : ℕ) (side : Side) (e : RingEvent) (es : List FabricEvent) (r : ℕ) → IsLook e → item_log r (AtRing queue side e ∷ es) ≡ item_log r es
-looked_log queue side e es r look = ap (λ (xs : List ItemEvent). cond (queue == r) xs (item_log r es)) (looked_items side e (item_log r es) look) ∙ same_both (queue == r) (item_log r es)
+-- a place of another ring is none of this one
+pub off_ring : (queue : ℕ) (side : Side) (r : ℕ) (other : Side) → IsOther queue side r other → (r == queue && is_same_side (word_side other) (word_side side)) ≡ false
+off_ring queue Free r Free apart = ⊎_elim (λ ne. other_queue r queue FreeSide FreeSide ne) (λ ne. absurd (ne refl)) apart
+off_ring queue Free r Line apart = other_side r queue LineSide FreeSide refl
+off_ring queue Line r Free apart = other_side r queue FreeSide LineSide refl
+off_ring queue Line r Line apart = ⊎_elim (λ ne. other_queue r queue LineSide LineSide ne) (λ ne. absurd (ne refl)) apart

@@ -14,10 +14,10 @@ use Rattle.unit_model.specs.declared.machine.Note.TheVariants.{Drawn, Posted, Ca
 use Rattle.unit_model.specs.declared.machine.Part.{Part}
 use Rattle.unit_model.specs.declared.machine.Seat.{Seat as SeatLists}
 use Rattle.unit_model.specs.declared.shape.Shape.{Shape}
-use Rattle.unit_model.proofs.Changes.{changed_at, unchanged_at}
+use Rattle.unit_model.proofs.Changes.{changed_at, part_stays, unchanged_at}
 use Rattle.unit_model.proofs.Weights.{is_number_other, is_number_same, weigh_push}
 use Rattle.fabric_rule.specs.FrameLaws.{ListsNotedLaw, NotedSameLaw, NotesOne, SameOf, note_stream}
-use Rattle.fabric_rule.specs.Parts.{IsTrueLedger, IsOwn, IsRefused, KnowsWork, ShowsLists}
+use Rattle.fabric_rule.specs.Parts.{AwaitsReply, IsTrueLedger, IsOwn, IsRefused, KnowsWork, ShowsLists, has_last}
 use Rattle.fabric_rule.specs.Views.{lists_at}
 use Rattle.fabric_rule.specs.declared.cause.Refusal.{Refusal}
 use Rattle.fabric_rule.specs.declared.view.ArmNote.{ArmNote}
@@ -122,6 +122,20 @@ lists_noted core core' note popped popped' views id v u c c' at notes only numbe
     })
     shown)
     old
+
+-- a note of one list leaves the others
+pub same_field : {X : Type 0} (core core' : Core) (seat : ℕ) (note : Note) → NotesOne core core' seat note → (list : SeatLists → X) → ((l : SeatLists) → list (noted note l) ≡ list l) → (k : ℕ) → list (seat_of core' k) ≡ list (seat_of core k)
+same_field core core' seat note notes_one list same k = ap (λ (seats : List SeatLists). list (get_or seats k no_seat)) notes_one.seats ∙ part_stays list seat (noted note) core.seats k no_seat same
+
+-- by a worker's note no stream comes to await its reply
+pub awaited : (core core' : Core) (seat : ℕ) (note : Note) → NotesOne core core' seat note → ((l : SeatLists) → ((noted note l).posted ≡ l.posted) × ((noted note l).cancelled ≡ l.cancelled) × ((noted note l).abandoned ≡ l.abandoned) × ((noted note l).received ≡ l.received))
+    → (k key : ℕ) → AwaitsReply (seat_of core' k) key → AwaitsReply (seat_of core k) key
+awaited core core' seat note notes stay k key awaits = record {
+  was_posted = omega (arith, awaits.was_posted, ap (times key) (same_field core core' seat note notes (λ (l : SeatLists). l.posted) (λ l. (stay l).0) k));
+  uncancelled = sym (ap (times key) (same_field core core' seat note notes (λ (l : SeatLists). l.cancelled) (λ l. (stay l).1) k)) ∙ awaits.uncancelled;
+  unabandoned = sym (ap (times key) (same_field core core' seat note notes (λ (l : SeatLists). l.abandoned) (λ l. (stay l).2) k)) ∙ awaits.unabandoned;
+  unreceived = sym (ap (has_last key) (same_field core core' seat note notes (λ (l : SeatLists). l.received) (λ l. (stay l).3) k)) ∙ awaits.unreceived;
+}
 
 -- ---- works
 

@@ -1,5 +1,5 @@
 -- The exchange of the number of open segments of a seat's side.
-use Rattle.std.proofs.Common.{ℕ, ◌+◌, ◌≡◌, ◌≢◌, ◌≤◌, ◌<◌, eqb, List, slice_index, set, refl, sym, ap, subst, arith}
+use Rattle.std.proofs.Common.{ℕ, ◌+◌, ◌≡◌, ◌≢◌, ◌≤◌, ◌<◌, eqb, List, slice_index, set, refl, sym, subst, arith}
 use Rattle.std.specs.Prelude.{Option}
 use Rattle.std.proofs.lemmas.List.{set-get_or}
 use mathlib.Core.Option.{some}
@@ -29,6 +29,7 @@ use Rattle.fabric_rule.specs.declared.event.Segments.TheVariants.{Out, Back}
 use Rattle.fabric_rule.specs.declared.view.FabricView.{FabricView}
 use Rattle.fabric_rule.proofs.Logged.{logs, other_notes}
 use Rattle.fabric_rule.proofs.OpenSteps.{open_more, opened_of, word_shows}
+use Rattle.fabric_rule.proofs.OpenWords.{open_between}
 
 module _ {H : Type 0} (reply_of : List ℕ → Request → Reply) (shape : Shape) (id : ℕ) (v : FabricView) (carried : List (ℕ × Option (Parcel H))) (s : State (Option (Parcel H)) FabricView) (holds : FabricHolds reply_of shape s) (at : get_elem? s.views id ≡ some v)
     (segments : Segments) (count : ℕ) (own : segments ≡ own_segments shape v.seat) (more : count < side_segments shape segments) where
@@ -46,22 +47,8 @@ module _ {H : Type 0} (reply_of : List ℕ → Request → Reply) (shape : Shape
   abbrev moment : (new : ℕ) (u : FabricView) → Moment H reply_of shape id v u
   moment new u = record { before = s; holds = holds; was = at; after = stepped s index new id carried u keeps; is = set_here s.views id u (is_there s.views id v at); others = λ k ne. set_else s.views id k u ne }
 
-  shown : found ≡ opened_of holds.core segments
-  shown = word_shows (word_in shape s.words) holds.core holds.shows segments
-
-  noted : open_noted segments v ≤ found
-  noted = by segments shown
-    where
-      by : (g : Segments) → found ≡ opened_of holds.core g → open_noted g v ≤ found
-      by Out is = omega (arith, is, (holds.views.opens id v at).out)
-      by Back is = omega (arith, is, (holds.views.opens id v at).back)
-
-  most : found ≤ side_segments shape segments
-  most = by segments shown
-    where
-      by : (g : Segments) → found ≡ opened_of holds.core g → found ≤ side_segments shape g
-      by Out is = omega (arith, is, holds.keeps.sound.held.segments.out.1, ap (λ (sh : Shape). sh.out_segments) holds.shaped)
-      by Back is = omega (arith, is, holds.keeps.sound.held.segments.back.1, ap (λ (sh : Shape). sh.back_segments) holds.shaped)
+  open_now : (1 ≤ found) × (open_noted segments v ≤ found) × (found ≤ side_segments shape segments)
+  open_now = open_between reply_of shape s holds id v at segments
 
   hit : found ≡ count → After (count + 1)
   hit is =
@@ -77,8 +64,8 @@ module _ {H : Type 0} (reply_of : List ℕ → Request → Reply) (shape : Shape
           record {
             moment = moment (count + 1) u;
             was = refl;
-            noted = noted;
-            most = most;
+            noted = open_now.1;
+            most = open_now.2;
             won = λ same. refl;
             step = λ same. opens.step;
             free = λ same. opens.free;
@@ -95,7 +82,7 @@ module _ {H : Type 0} (reply_of : List ℕ → Request → Reply) (shape : Shape
       let words : set s.words index found ≡ s.words = set-get_or s.words index 0 in
       let none : IsNoStep reply_of shape s holds (stepped s index found id carried u keeps) =
       subst (λ (ws : List ℕ). IsNoStep reply_of shape s holds (record { words = ws; homes = s.homes; views = set s.views id u })) (sym words)
-      (logs reply_of shape s holds id v at e (other_notes reply_of shape s holds id v at e (λ q side. refl) (λ q. refl)) (opens_found segments shown)) in (
+      (logs reply_of shape s holds id v at e (other_notes reply_of shape s holds id v at e (λ q side. refl) (λ q. refl)) (opens_found segments (word_shows (word_in shape s.words) holds.core holds.shows segments))) in (
         u,
         keeps,
         tt,
@@ -106,8 +93,8 @@ module _ {H : Type 0} (reply_of : List ℕ → Request → Reply) (shape : Shape
           record {
             moment = moment found u;
             was = refl;
-            noted = noted;
-            most = most;
+            noted = open_now.1;
+            most = open_now.2;
             won = λ same. absurd (ne same);
             step = λ same. absurd (ne same);
             free = λ same. absurd (ne same);

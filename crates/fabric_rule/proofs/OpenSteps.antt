@@ -1,5 +1,5 @@
 -- A seat opens one more segment of its side.
-use Rattle.std.proofs.Common.{ℕ, ◌+◌, ◌-◌, ◌≡◌, ◌≢◌, ◌<◌, ◌==◌, ◌&&◌, nat_le, nat_lt, Bool, true, false, if◌then◌else◌, List, [], set, refl, sym, ap, ◌∙◌, subst, arith, length-set}
+use Rattle.std.proofs.Common.{ℕ, ◌+◌, ◌-◌, ◌≡◌, ◌≢◌, ◌<◌, ◌==◌, ◌&&◌, nat_le, nat_lt, Bool, true, false, if◌then◌else◌, List, set, refl, sym, ap, ◌∙◌, subst, arith, length-set}
 use Rattle.std.specs.Prelude.{Option}
 use Rattle.std.proofs.lemmas.Bool.{le-ltb, lt-leb}
 use mathlib.Core.Option.{some}
@@ -40,9 +40,11 @@ use Rattle.fabric_rule.specs.declared.event.FabricEvent.TheVariants.{AtMap}
 use Rattle.fabric_rule.specs.declared.event.Segments.{Segments}
 use Rattle.fabric_rule.specs.declared.event.Segments.TheVariants.{Out, Back}
 use Rattle.fabric_rule.specs.declared.view.FabricView.{FabricView}
-use Rattle.fabric_rule.proofs.Beside.{IsWhereItWas, keeps_beside, notes_beside, rings_beside, tails_same, views_beside}
+use Rattle.fabric_rule.proofs.Beside.{IsWhereItWas, notes_beside, rings_beside, tails_same, views_beside}
+use Rattle.fabric_rule.proofs.RuleSteps.{step_made}
 use Rattle.fabric_rule.proofs.Contents.{filled_stay}
 use Rattle.fabric_rule.proofs.Frames.{chunks_stay, of_each}
+use Rattle.unit_model.proofs.PartOrderOthers.{others_in_order}
 
 -- ---- what Open leaves of a core
 
@@ -190,30 +192,18 @@ module _ {H : Type 0} (reply_of : List ℕ → Request → Reply) (shape : Shape
   opened_more : IsMachineStep reply_of shape s holds (Open v.seat count) (stepped s (offset_of shape place) (count + 1) id carried u keeps)
   opened_more =
       let items : (q i : ℕ) → item_of core' q i ≡ item_of core q i = opening_items core v.seat count in
-      let idle : v.works ≡ [] → v.chunks ≡ [] = λ none. (holds.views.idle id v at none).chunks in
-      record {
-        enabled = link.enabled;
-        after = record {
-          wide = omega (arith, holds.wide, length-set s.words (offset_of shape place) (count + 1));
-          core = core';
-          popped = holds.popped;
-          armed = holds.armed;
-          records = holds.records;
-          shaped = same.shape ∙ holds.shaped;
-          keeps = keeps_beside holds.popped holds.armed core (Open v.seat count) tt link.enabled link.sound holds.keeps;
-          shows = link.shows;
-          notes = notes_beside shape word word' place (count + 1) sets (word_off segments) (word_off_rings segments) s.views id v at v.ledgers v.works v.chunks (AtMap segments (OpenedTo (count + 1))) (λ q side. refl) (λ q. refl) holds.notes;
-          views = views_beside shape word word' holds.popped holds.armed holds.records core core' s.views id v at v.chunks (AtMap segments (OpenedTo (count + 1))) same
-              (λ q i. subst (IsWhereItWas (item_of core q i)) (sym (items q i)) (record { tag = refl; place = refl; last = refl }))
-              (tails_same core shape word word' holds.shaped (rings_beside shape word word' place (count + 1) sets (word_off segments) (word_off_rings segments)))
-              (chunks_stay core core' s.views id v u at same.shape (opening_owner core v.seat count) (λ f. refl) holds.views.chunks)
-              (of_each (OpensNoted core) (OpensNoted core') s.views id u opens_mine opens_same holds.views.opens) idle holds.views;
-          free = λ chunk lt is_set. holds.free chunk lt (sym (chunk_stays shape word word' place (count + 1) sets (word_off_map segments) chunk lt) ∙ is_set);
-          filled = filled_stay H reply_of holds.records holds.records core core' s.homes s.homes same.shape
-              (λ q i has armed. let is = items q i in (ap (λ (y : Item). y.tag) is, ap (λ (y : Item). y.run) is, ap (λ (y : Item). y.part) is, refl, λ chunk in_run. refl)) holds.filled;
-        };
-        is = refl;
-      }
+      step_made reply_of shape s holds (Open v.seat count) (set s.words (offset_of shape place) (count + 1)) s.homes (set s.views id u) holds.popped holds.armed
+      (omega (arith, holds.wide, length-set s.words (offset_of shape place) (count + 1))) link (same.shape ∙ holds.shaped)
+      (others_in_order holds.popped holds.armed core (Open v.seat count) holds.keeps.sound holds.keeps.order tt link.enabled)
+      (notes_beside shape word word' place (count + 1) sets (word_off segments) (word_off_rings segments) s.views id v at v.ledgers v.works v.chunks (AtMap segments (OpenedTo (count + 1))) (λ q side. refl) (λ q. refl) holds.notes)
+      (views_beside shape word word' holds.popped holds.armed holds.records core core' s.views id v at v.chunks (AtMap segments (OpenedTo (count + 1))) same
+      (λ q i. subst (IsWhereItWas (item_of core q i)) (sym (items q i)) (record { tag = refl; place = refl; last = refl }))
+      (tails_same core shape word word' holds.shaped (rings_beside shape word word' place (count + 1) sets (word_off segments) (word_off_rings segments)))
+      (chunks_stay core core' s.views id v u at same.shape (opening_owner core v.seat count) (λ f. refl) holds.views.chunks)
+      (of_each (OpensNoted core) (OpensNoted core') s.views id u opens_mine opens_same holds.views.opens) (λ none. (holds.views.idle id v at none).chunks) holds.views)
+      (λ chunk lt is_set. holds.free chunk lt (sym (chunk_stays shape word word' place (count + 1) sets (word_off_map segments) chunk lt) ∙ is_set))
+      (filled_stay H reply_of holds.records holds.records core core' s.homes s.homes same.shape
+      (λ q i has armed. let is = items q i in (ap (λ (y : Item). y.tag) is, ap (λ (y : Item). y.run) is, ap (λ (y : Item). y.part) is, refl, λ chunk in_run. refl)) holds.filled)
 
   all_free : IsAllFree shape core' segments count
   all_free chunk lt =
@@ -224,7 +214,7 @@ module _ {H : Type 0} (reply_of : List ℕ → Request → Reply) (shape : Shape
       ∙ holds.keeps.sound.held.segments.unopened (segment_in core.shape segments count) chunk lt closed
 
   pub opens : SegmentOpens reply_of shape s holds id v carried segments count
-  unfolding opened_more
+  unfolding opened_more step_made
   opens = record { step = opened_more; free = all_free }
 
 pub open_more : (H : Type 0) → OpenLaw H

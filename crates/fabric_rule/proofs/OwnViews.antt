@@ -1,5 +1,5 @@
 -- What a main seat knows by its lists, its works and its arms.
-use Rattle.std.proofs.Common.{ℕ, ◌≡◌, ◌≢◌, ◌≤◌, ◌<◌, ◌==◌, ◌&&◌, inl, inr, List, [], ◌∷◌, get_or, set, refl, sym, ap, ◌∙◌, subst, arith}
+use Rattle.std.proofs.Common.{ℕ, ◌≡◌, ◌≢◌, ◌≤◌, ◌<◌, ◌==◌, ◌&&◌, inl, inr, List, set, refl, sym, ap, ◌∙◌, subst, arith}
 use Rattle.std.proofs.lemmas.Bool.{cases_eq}
 use Rattle.std.proofs.lemmas.Bool.Decides.{nat_tests}
 use mathlib.Core.Option.{some, some-injective}
@@ -7,35 +7,23 @@ use lib.ListN.{get_elem?}
 use Rattle.app_queue.specs.Arms.{Arm, WasArmed}
 use Rattle.app_queue.proofs.ArmFrames.{some_weighs}
 use Rattle.unit_model.specs.ByRole.{SeatByRole}
-use Rattle.unit_model.specs.Core.{no_seat, seat_of}
-use Rattle.unit_model.specs.Effects.{noted}
-use Rattle.unit_model.specs.PartOrder.{Each}
+use Rattle.unit_model.specs.Core.{seat_of}
 use Rattle.unit_model.specs.StreamCounts.{by_seat, posted}
 use Rattle.unit_model.specs.Weights.{weigh, is_number, one_if}
 use Rattle.unit_model.specs.declared.machine.Core.{Core}
 use Rattle.unit_model.specs.declared.machine.Note.{Note}
-use Rattle.unit_model.specs.declared.machine.Seat.{Seat as SeatLists}
-use Rattle.unit_model.proofs.Changes.{part_stays}
 use Rattle.unit_model.proofs.Views.{sum_at, sum_set, sum_two}
 use Rattle.unit_model.proofs.Weights.{is_number_other, is_number_same}
 use Rattle.fabric_rule.specs.FrameLaws.{NotesOne, SameOf, note_stream}
-use Rattle.fabric_rule.specs.Parts.{AwaitsReply, IsTrueLedger, KnowsWork, ListsShown, PostsInWork, ShowsLists, ShowsWorks, WorksShown}
-use Rattle.fabric_rule.specs.Views.{arms_among, arms_at, draw_at, draw_weight, lists_at, posts_at, posts_of, take_at, take_weight}
+use Rattle.fabric_rule.specs.Parts.{AwaitsReply, KnowsWork, PostsInWork, ShowsWorks, WorksShown}
+use Rattle.fabric_rule.specs.Views.{arms_among, arms_at, draw_at, draw_weight, posts_at, posts_of, take_at, take_weight}
 use Rattle.fabric_rule.specs.declared.view.ArmNote.{ArmNote}
-use Rattle.fabric_rule.specs.declared.view.Ledger.{Ledger}
 use Rattle.fabric_rule.specs.declared.view.FabricView.{FabricView}
 use Rattle.fabric_rule.specs.declared.view.Work.{Work}
 use Rattle.fabric_rule.proofs.ArmSteps.{drawn_stream, taker_apart}
 use Rattle.fabric_rule.proofs.KeyedSteps.{keyed_step}
 use Rattle.fabric_rule.proofs.Noting.{same_of_others, work_noted}
 use Rattle.fabric_rule.proofs.Sums.{each_gives}
-
--- a main seat's ledger is true
-pub own_ledger : (core : Core) (popped : ℕ → List ℕ) (views : List FabricView) (id : ℕ) (v : FabricView) (c : Ledger) → get_elem? views id ≡ some v → v.ledgers ≡ c ∷ [] → ListsShown core popped views → IsTrueLedger core popped c
-own_ledger core popped views id v c at only lists =
-    let once : 1 ≤ lists_at c.seat v = omega (arith, ap (weigh (λ (d : Ledger). is_number c.seat d.seat)) only, is_number_same c.seat) in
-    let shown : ShowsLists core popped c.seat v = lists.each c.seat id v at once in
-    (subst (λ (cs : List Ledger). Each (λ (d : Ledger). d.seat ≡ c.seat → IsTrueLedger core popped d) cs) only shown).0 refl
 
 -- ---- arms on queue 0
 
@@ -117,8 +105,3 @@ module _ (core core' : Core) (armed : ℕ → List ℕ) (views : List FabricView
             } in
             omega (arith, old engine key before, sum_set (draw_at key) views id v u at, draws_v key, draws_u key, is_number_other key stream (λ is. ne (sym is)))
       ]
-
--- ---- a note of one list leaves the others
-
-pub same_field : {X : Type 0} (core core' : Core) (seat : ℕ) (note : Note) → NotesOne core core' seat note → (list : SeatLists → X) → ((l : SeatLists) → list (noted note l) ≡ list l) → (k : ℕ) → list (seat_of core' k) ≡ list (seat_of core k)
-same_field core core' seat note notes_one list same k = ap (λ (seats : List SeatLists). list (get_or seats k no_seat)) notes_one.seats ∙ part_stays list seat (noted note) core.seats k no_seat same

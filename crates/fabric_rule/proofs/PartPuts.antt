@@ -37,7 +37,7 @@ use Rattle.fabric_rule.specs.declared.view.ArmNote.{ArmNote}
 use Rattle.fabric_rule.specs.declared.view.FabricView.{FabricView}
 use Rattle.fabric_rule.specs.declared.view.Work.{Work}
 use Rattle.fabric_rule.specs.declared.view.Work.TheVariants.{Taken as TakenWork, Holding}
-use Rattle.fabric_rule.proofs.EntrySteps.{OfWorks, hand, push_leaves, pushes}
+use Rattle.fabric_rule.proofs.EntrySteps.{OfWorks, hand, push_left, pushes}
 use Rattle.fabric_rule.proofs.KeyedSteps.{keyed_step}
 use Rattle.fabric_rule.proofs.ListFrames.{same_seat, work_same}
 use Rattle.fabric_rule.proofs.Noting.{work_stream}
@@ -128,7 +128,7 @@ module _ {H : Type 0} (reply_of : List ℕ → Request → Reply) (shape : Shape
   busy is = absurd (cc is)
 
   same : SameLists core core'
-  same = (push_leaves reply_of shape s holds id v at left busy queue item place there mine may fills tagged).same
+  same = (push_left reply_of shape s holds id v at left busy queue item place there mine may fills tagged).leaves.lists
 
   works' : WorksShown core' armed' (set s.views id u)
   works' =

@@ -1,105 +1,77 @@
 -- A seat pops the queue that it empties.
-use Rattle.std.proofs.Common.{ℕ, ⊎_elim, ◌+◌, ◌/◌, ◌%◌, ◌^◌, ◌≡◌, ◌≢◌, ◌≤◌, ◌<◌, ◌⊎◌, ◌==◌, ◌&&◌, inl, inr, Bool, true, false, cond, List, [], ◌∷◌, length, set, refl, sym, ap, ◌∙◌, subst, arith, length-set, Some, None}
+use Rattle.std.proofs.Common.{ℕ, ◌+◌, ◌/◌, ◌%◌, ◌^◌, ◌≡◌, ◌≢◌, ◌≤◌, ◌<◌, ◌==◌, inl, inr, Bool, true, false, cond, List, [], ◌∷◌, length, set, refl, sym, ap, ◌∙◌, subst, arith, length-set}
 use Rattle.std.specs.Prelude.{Option}
 use Rattle.std.proofs.lemmas.Bool.{cases_eq, eq-eqb, ne_eqb}
 use mathlib.Core.Option.{some}
 use lib.ListN.{get_elem?}
 use Rattle.atomic_table.specs.Table.{State, keeps, stepped}
-use Rattle.nncq_ring.specs.Notes.{EntryNoted, RingPart}
-use Rattle.nncq_ring.specs.Words.{Words, SetsHead}
-use Rattle.nncq_ring.specs.declared.view.RingEvent.{RingEvent}
-use Rattle.nncq_ring.specs.declared.view.RingEvent.TheVariants.{SawEntry, Popped}
-use Rattle.nncq_ring.proofs.Exchanges.{popped_tail}
-use Rattle.nncq_ring.proofs.Noting.{may_take}
-use Rattle.nncq_ring.proofs.RingParts.{note_at, part_pops}
-use Rattle.app_queue.specs.Parts.{RingParts, TagsKnown, WordsKnown}
+use Rattle.nncq_ring.specs.Words.{Words}
+use Rattle.nncq_ring.specs.declared.view.RingEvent.TheVariants.{SawEntry}
 use Rattle.app_queue.specs.Arms.{ArmsPlaced}
-use Rattle.app_queue.specs.Queues.{IsOther}
-use Rattle.app_queue.specs.Views.{last_tag, last_run, last_part, is_armed}
-use Rattle.app_queue.specs.declared.side.Side.{Side}
+use Rattle.app_queue.specs.Views.{is_armed}
 use Rattle.app_queue.specs.declared.side.Side.TheVariants.{Free, Line}
 use Rattle.app_queue.specs.declared.view.ItemEvent.{ItemEvent}
 use Rattle.app_queue.specs.declared.view.ItemEvent.TheVariants.{Taken}
 use Rattle.app_queue.proofs.ArmFrames.{arms_stay}
-use Rattle.app_queue.proofs.KnownFrames.{tags_known_one, words_known_one}
-use Rattle.app_queue.proofs.QueueViews.{told_else, told_here}
-use Rattle.app_queue.proofs.RingFrames.{rings_step}
 use Rattle.request_context.specs.declared.piece.Parcel.{Parcel}
 use Rattle.unit_model.specs.Conditions.{conditions_by, conditions_of}
-use Rattle.unit_model.specs.Core.{first_item, item_of, owner_of, queue_of, role_of}
-use Rattle.unit_model.specs.Effects.{after_step, with_item, without_first_in_line}
+use Rattle.unit_model.specs.Core.{first_item, item_of, queue_of, role_of}
+use Rattle.unit_model.specs.Effects.{after_step}
 use Rattle.unit_model.specs.Holding.{entries_of, is_in_line, items_of}
-use Rattle.unit_model.specs.PartOrder.{Each, PartsInOrder}
+use Rattle.unit_model.specs.PartOrder.{PartsInOrder}
 use Rattle.unit_model.specs.Limits.{past_items}
 use Rattle.unit_model.specs.Premises.{Empties, Engine, Worker}
 use Rattle.unit_model.specs.Running.{Enabled}
 use Rattle.unit_model.specs.Shapes.{role_in}
 use Rattle.unit_model.specs.Sharing.{Holds}
 use Rattle.unit_model.specs.Soundness.{IsSound}
-use Rattle.unit_model.specs.Weights.{weigh, below, is_number, one_if}
+use Rattle.unit_model.specs.Weights.{weigh, is_number}
 use Rattle.unit_model.specs.declared.machine.Core.{Core}
 use Rattle.unit_model.specs.declared.machine.Item.{Item}
 use Rattle.unit_model.specs.declared.machine.Step.TheVariants.{Pop}
 use Rattle.unit_model.specs.declared.machine.Whereabouts.{Whereabouts}
-use Rattle.unit_model.specs.declared.machine.Whereabouts.TheVariants.{InFreeList, InLine, WithSeat}
+use Rattle.unit_model.specs.declared.machine.Whereabouts.TheVariants.{InLine, WithSeat}
 use Rattle.unit_model.specs.declared.shape.Shape.{Shape}
 use Rattle.unit_model.proofs.HeldItems.{counts_at, line_word, word_of_free}
-use Rattle.unit_model.proofs.ItemChanges.{SetsItem, item_beside, item_elsewhere, item_here, queue_there}
+use Rattle.unit_model.proofs.ItemChanges.{SetsItem, queue_there}
 use Rattle.unit_model.proofs.MetConditions.{each_met}
 use Rattle.unit_model.proofs.MetSteps.{first_in_line, item_is_low}
 use Rattle.unit_model.proofs.PartOrderBack.{first_counts, pop_in_order}
 use Rattle.unit_model.proofs.Presence.{engine_is_low}
 use Rattle.unit_model.proofs.PartOrderOthers.{others_in_order}
-use Rattle.unit_model.proofs.RoleLists.{seats_by_role_stay}
-use Rattle.unit_model.proofs.RoleSteps.{by_role_stays}
 use Rattle.unit_model.proofs.StepFacts.{empty_inside, sets_after_pop}
-use Rattle.unit_model.proofs.Views.{sum_at}
-use Rattle.unit_model.proofs.Weights.{below_none, is_number_other, is_number_same}
+use Rattle.unit_model.proofs.Weights.{is_number_same}
 use Rattle.unit_types.specs.declared.message.Reply.{Reply}
 use Rattle.unit_types.specs.declared.message.Request.{Request}
 use Rattle.fabric_words.specs.Needs.{IsFirst}
 use Rattle.fabric_words.specs.Offsets.{offset_of, word_in}
-use Rattle.fabric_words.specs.Places.{HasItem, Sets, is_of_ring, queues_of}
+use Rattle.fabric_words.specs.Places.{HasItem, Sets, queues_of}
 use Rattle.fabric_words.specs.Shown.{IsStep}
 use Rattle.fabric_words.specs.declared.place.Place.{Place}
-use Rattle.fabric_words.specs.declared.place.Place.TheVariants.{Head, Tail, Slot, Tag, RunWord, PartWord}
+use Rattle.fabric_words.specs.declared.place.Place.TheVariants.{Head, Tail}
 use Rattle.fabric_words.specs.declared.place.Side.TheVariants.{FreeSide, LineSide}
 use Rattle.fabric_words.proofs.EachStep.{made_step}
-use Rattle.fabric_words.proofs.Frames.{chunk_stays, item_there, other_queue, other_side, ring_stays}
-use Rattle.fabric_words.proofs.Standing.{set_word}
+use Rattle.fabric_words.proofs.Frames.{chunk_stays, item_there}
 use Rattle.fabric_rule.specs.FrameLaws.{SameLists}
 use Rattle.fabric_rule.specs.Parts.{ItemsHeld, IsEmptyHanded, IsIdle, IsTrueLedger, ListsShown, ShowsLists, hand_weight}
 use Rattle.fabric_rule.specs.Rule.{FabricHolds, NotesAreTrue, ViewsShow}
 use Rattle.fabric_rule.specs.Steps.{IsMachineStep, IsMain, PopLaw, with_popped}
-use Rattle.fabric_rule.specs.Views.{arms_at, emptied_by, got_at, hand_at, held_at, is_got, is_side, item_log, lists_at, log_at, part_in, part_said, popped_at, queues_in, ring_in, run_in, run_said, tag_in, tag_kept, tag_said, word_side, words_in}
+use Rattle.fabric_rule.specs.Views.{arms_at, emptied_by, got_at, held_at, is_got, item_log, lists_at, log_at, part_in, popped_at, queues_in, ring_in, run_in, tag_in, words_in}
 use Rattle.fabric_rule.specs.declared.view.Ledger.{Ledger}
 use Rattle.fabric_rule.specs.declared.view.FabricView.{FabricView}
-use Rattle.fabric_rule.specs.declared.view.HeldItem.{HeldItem}
 use Rattle.fabric_rule.proofs.Contents.{filled_stay}
-use Rattle.fabric_rule.proofs.Frames.{item_moves}
+use Rattle.fabric_rule.proofs.Frames.{chunks_stay, opens_stay}
 use Rattle.fabric_rule.proofs.KeyedSteps.{keyed_step}
-use Rattle.fabric_rule.proofs.Logs.{other_log, own_log}
-use Rattle.fabric_rule.proofs.Staying.{SaysTheSame, moved_alone, views_stay}
+use Rattle.fabric_rule.proofs.ItemNotes.{ItemsStill}
+use Rattle.fabric_rule.proofs.Staying.{SaysTheSame, moved_alone, streams_left, views_stay}
+use Rattle.fabric_rule.proofs.CoreSteps.{LeavesSeats, pop_leaves}
+use Rattle.fabric_rule.proofs.Hands.{nothing_of}
+use Rattle.fabric_rule.proofs.Ledgers.{own_ledger, own_popped}
+use Rattle.fabric_rule.proofs.RuleSteps.{step_made}
+use Rattle.fabric_rule.proofs.TakenItems.{got_held, not_in_hand}
+use Rattle.fabric_rule.proofs.TakenItems as taken
 use Rattle.fabric_rule.proofs.Sums.{each_gives}
 use Rattle.fabric_rule.proofs.ListFrames.{ledger_same, in_work_stay, lists_same, works_stay}
-
--- ---- what Pop leaves of a core
-
-module _ (core : Core) (seat queue item place : ℕ) where
-  abbrev after : Core
-  after = after_step core (Pop seat queue item place)
-
-  pop_lists : SameLists core after
-  unfolding after_step with_item without_first_in_line
-  pop_lists = record { shape = refl; seats = refl }
-
-  pop_owner : (chunk : ℕ) → owner_of after chunk ≡ owner_of core chunk
-  unfolding after_step with_item without_first_in_line
-  pop_owner chunk = refl
-
-  pop_opened : after.opened ≡ core.opened
-  unfolding after_step with_item without_first_in_line
-  pop_opened = refl
 
 -- the item that is popped is there, and was in the line
 was_inside : (core : Core) (seat queue item place : ℕ) → Enabled core (Pop seat queue item place) → item < length (queue_of core queue).items
@@ -119,52 +91,9 @@ was_in_line core seat queue item place sound met =
     word_of_free (is_in_line (item_of core queue item).whereabouts) (entries_of item (queue_of core queue).line) (sym (counts_at is_in_line (queue_of core queue).items (queue_of core queue).line item inside (sound.held.queues queue).line)) some_there in
     line_word (item_of core queue item).whereabouts is
 
--- ---- an item that no seat has is in no view
-
-hand_none : (item i : ℕ) (w : Whereabouts) → ((i ≡ item) → w ≡ InLine) → hand_weight (λ seat j. is_number item j) w i ≡ 0
-hand_none item i InFreeList in_line = refl
-hand_none item i InLine in_line = refl
-hand_none item i (WithSeat k) in_line =
-    elim (cases_eq i item) [
-      | inl same ↦ absurd (cc (in_line same))
-      | inr other ↦ is_number_other item i other
-    ]
-
-not_in_hand : (core : Core) (views : List FabricView) (id : ℕ) (v : FabricView) → get_elem? views id ≡ some v → ItemsHeld core views → (queue item : ℕ) → queue < queues_of core.shape → (item_of core queue item).whereabouts ≡ InLine → held_at queue (is_number item) v ≡ 0
-not_in_hand core views id v at held queue item lt in_line =
-    let f : ℕ → ℕ → ℕ = λ seat j. is_number item j in
-    let none : below (λ i. hand_weight f (item_of core queue i).whereabouts i) (items_of core.shape queue) ≡ 0 =
-    below_none (λ i. hand_weight f (item_of core queue i).whereabouts i) (items_of core.shape queue) (λ i below_n. hand_none item i (item_of core queue i).whereabouts (λ same. ap (λ (j : ℕ). (item_of core queue j).whereabouts) same ∙ in_line)) in
-    omega (arith, held queue lt f, none, sum_at (hand_at queue f) views id v at)
-
--- an item that was got is held
-got_below : (queue item place : ℕ) (h : HeldItem) → is_got queue item place h ≤ cond (h.queue == queue) (is_number item h.item) 0
-got_below queue item place h = by (is_side h.side Free) (h.queue == queue) (h.item == item) (h.place == place)
-  where
-    by : (a b c d : Bool) → one_if (a && (b && (c && d))) ≤ cond b (one_if c) 0
-    by false false c d = omega arith
-    by false true false d = omega arith
-    by false true true d = omega arith
-    by true false c d = omega arith
-    by true true false d = omega arith
-    by true true true false = omega arith
-    by true true true true = omega arith
-
-got_held : (queue item place : ℕ) (items : List HeldItem) → weigh (is_got queue item place) items ≤ weigh (λ (h : HeldItem). cond (h.queue == queue) (is_number item h.item) 0) items
-got_held queue item place [] = omega arith
-got_held queue item place (h ∷ hs) = omega (arith, got_below queue item place h, got_held queue item place hs)
-
-zero_of : (b : Bool) → cond {A = ℕ} b 0 0 ≡ 0
-zero_of true = refl
-zero_of false = refl
-
 one_more : (b : Bool) (n : ℕ) → cond {A = ℕ} b (n + 0) 0 ≡ cond {A = ℕ} b n 0
 one_more true n = omega arith
 one_more false n = refl
-
-chosen_zero : (b : Bool) (n : ℕ) → n ≡ 0 → cond {A = ℕ} b n 0 ≡ 0
-chosen_zero true n is = is
-chosen_zero false n is = refl
 
 -- ---- the step
 
@@ -200,30 +129,18 @@ module _ {H : Type 0} (reply_of : List ℕ → Request → Reply) (shape : Shape
   core' = after_step core (Pop v.seat queue item place)
 
   sets : Sets shape word word' (Head queue LineSide) (place + 1)
-  sets = set_word shape s.words (Head queue LineSide) (place + 1) holds.wide first_queue
-
-  part : RingPart n (log_at queue Line) w s.views
-  part = holds.notes.rings.rings queue first_queue Line
-
-  noted : EntryNoted n w place entry
-  noted = note_at n w (log_at queue Line v) 0 (SawEntry place entry) saw (part.noted id v at)
-
-  is_first : IsFirst n w place item
-  is_first =
-      let there = may_take n place entry w found full noted in
-      record {
-        head = found;
-        full = subst (λ (p : ℕ). w.entry (p % n) / n ≡ p / n) found there.1;
-        has = ap (λ (p : ℕ). w.entry (p % n) % n) (sym found) ∙ ap (λ (y : ℕ). y % n) there.0;
-      }
+  sets = taken.sets reply_of shape s holds id v at queue first_queue Line place entry saw full found u.ledgers
 
   link : IsStep word' core (Pop v.seat queue item place)
   link =
       made_step shape word word' (Pop v.seat queue item place) sets core holds.shaped holds.keeps.sound holds.shows
-      (record { empties = empties; first = subst (λ (sh : Shape). IsFirst (items_of sh queue) w place item) (sym holds.shaped) is_first })
+      (record { empties = empties; first = subst (λ (sh : Shape). IsFirst (items_of sh queue) w place item) (sym holds.shaped) (taken.is_first reply_of shape s holds id v at queue first_queue Line place entry saw full found u.ledgers) })
+
+  leaves : LeavesSeats core core'
+  leaves = pop_leaves core v.seat queue item place
 
   same : SameLists core core'
-  same = pop_lists core v.seat queue item place
+  same = leaves.lists
 
   shape' : core'.shape ≡ shape
   shape' = same.shape ∙ holds.shaped
@@ -243,93 +160,17 @@ module _ {H : Type 0} (reply_of : List ℕ → Request → Reply) (shape : Shape
   changed : SetsItem core core' queue item now
   changed = sets_after_pop core v.seat queue item place inside
 
-  -- no view had the item
+  -- no seat had the item
+  away : (f : ℕ → ℕ → ℕ) → hand_weight f (item_of core queue item).whereabouts item ≡ 0
+  away f = ap (λ (x : Whereabouts). hand_weight f x item) in_line
+
   not_mine : held_at queue (is_number item) v ≡ 0
-  not_mine = not_in_hand core s.views id v at holds.views.items queue item (subst (λ (sh : Shape). queue < queues_of sh) (sym holds.shaped) first_queue) in_line
+  not_mine = not_in_hand core s.views id v at holds.views.items queue item (subst (λ (sh : Shape). queue < queues_of sh) (sym holds.shaped) first_queue) away
 
   -- ---- notes
 
-  head_sets : SetsHead n w w' (w.head + 1)
-  head_sets = record {
-    head = sets.here ∙ ap (λ (m : ℕ). m + 1) (sym found);
-    tail = sets.others (Tail queue LineSide) first_queue (λ is. absurd (cc is));
-    entries = λ j lt. sets.others (Slot queue LineSide j) (record { in_queues = first_queue; in_items = lt }) (λ is. absurd (cc is));
-  }
-
-  off_ring : (r : ℕ) (other : Side) → IsOther queue Line r other → is_of_ring r (word_side other) (Head queue LineSide) ≡ false
-  off_ring r Free apart = other_side r queue FreeSide LineSide refl
-  off_ring r Line apart = ⊎_elim (λ ne. other_queue r queue LineSide LineSide ne) (λ ne. absurd (ne refl)) apart
-
-  abbrev e : RingEvent
-  e = Popped place item
-
-  rings' : RingParts log_at (queues_in shape) (ring_in word') (set s.views id u)
-  rings' =
-      let full_now = may_take n place entry w found full noted in
-      rings_step FabricView log_at (queues_in shape) (ring_in word) (ring_in word') s.views id v u at queue Line
-      (λ r lt other apart. ring_stays shape word word' (Head queue LineSide) (place + 1) sets r (word_side other) lt (off_ring r other apart))
-      (λ r lt other apart. other_log queue Line e v.log r other apart)
-      (part_pops n (log_at queue Line) w s.views id v at part w' u place entry item 0 saw full found (own_log queue Line e v.log) head_sets)
-      (omega (arith, holds.notes.rings.worn queue first_queue Line, popped_tail n w w' part.fine full_now.1 head_sets))
-      holds.notes.rings
-
-  -- what is held was held, but for the item
-  was_held : (r i : ℕ) → (r ≢ queue) ⊎ (i ≢ item) → Holds (held_at r) i u → Holds (held_at r) i v
-  was_held r i apart held =
-      let none : cond {A = ℕ} (queue == r) (is_number i item) 0 ≡ 0 =
-      ⊎_elim (λ ne. ap (λ (b : Bool). cond {A = ℕ} b (is_number i item) 0) (ne_eqb queue r (λ is. ne (sym is)))) (λ ne. chosen_zero (queue == r) (is_number i item) (is_number_other i item (λ is. ne (sym is)))) apart in
-      omega (arith, held, none)
-
-  same_events : (r : ℕ) → r ≢ queue → item_log r u.log ≡ item_log r v.log
-  same_events r ne = ap (λ (b : Bool). cond b (Taken Line item place ∷ item_log r v.log) (item_log r v.log)) (ne_eqb queue r (λ is. ne (sym is)))
-
-  own_events : item_log queue u.log ≡ Taken Line item place ∷ item_log queue v.log
-  own_events = ap (λ (b : Bool). cond b (Taken Line item place ∷ item_log queue v.log) (item_log queue v.log)) (eq-eqb queue queue refl)
-
-  -- and of it is said what was
-  was_said : (says : ℕ → List ItemEvent → Option ℕ) → ((i : ℕ) (es : List ItemEvent) → says i (Taken Line item place ∷ es) ≡ cond (item == i) None (says i es)) → (r i : ℕ) → (r ≢ queue) ⊎ (i ≢ item) → (x : ℕ) → says i (item_log r u.log) ≡ Some x → says i (item_log r v.log) ≡ Some x
-  was_said says taken r i apart x told =
-      elim (cases_eq r queue) [
-        | inl is ↦ ⊎_elim
-            (λ ne. absurd (ne is))
-            (λ ne.
-            let here : says i (item_log queue u.log) ≡ Some x = subst (λ (q : ℕ). says i (item_log q u.log) ≡ Some x) is told in
-            let before : says i (item_log queue v.log) ≡ Some x = told_else item i None (says i (item_log queue v.log)) x ne (sym (taken i (item_log queue v.log)) ∙ sym (ap (says i) own_events) ∙ here) in
-            subst (λ (q : ℕ). says i (item_log q v.log) ≡ Some x) (sym is) before)
-            apart
-        | inr ne ↦ subst (λ (es : List ItemEvent). says i es ≡ Some x) (same_events r ne) told
-      ]
-
-  -- of the item that was taken nothing is said
-  unsaid : (says : ℕ → List ItemEvent → Option ℕ) → ((i : ℕ) (es : List ItemEvent) → says i (Taken Line item place ∷ es) ≡ cond (item == i) None (says i es)) → (x : ℕ) → says item (item_log queue u.log) ≡ Some x → ⊥
-  unsaid says taken x told =
-      let is : None ≡ Some x = told_here item None (says item (item_log queue v.log)) x (sym (taken item (item_log queue v.log)) ∙ sym (ap (says item) own_events) ∙ told) in
-      absurd (cc is)
-
-  same_tags : (q : ℕ) → q < queues_of shape → (i : ℕ) → i < items_of shape q → word' (Tag q i) ≡ word (Tag q i)
-  same_tags q lt i below_n = sets.others (Tag q i) (record { in_queues = lt; in_items = below_n }) (λ is. absurd (cc is))
-
-  same_runs : (q : ℕ) → q < queues_of shape → (i : ℕ) → i < items_of shape q → word' (RunWord q i) ≡ word (RunWord q i)
-  same_runs q lt i below_n = sets.others (RunWord q i) (record { in_queues = lt; in_items = below_n }) (λ is. absurd (cc is))
-
-  same_parts : (q : ℕ) → q < queues_of shape → (i : ℕ) → i < items_of shape q → word' (PartWord q i) ≡ word (PartWord q i)
-  same_parts q lt i below_n = sets.others (PartWord q i) (record { in_queues = lt; in_items = below_n }) (λ is. absurd (cc is))
-
-  tags' : TagsKnown held_at tag_said (queues_in shape) (tag_in word') (set s.views id u)
-  tags' = tags_known_one FabricView tag_said held_at (queues_in shape) (tag_in word) (tag_in word') s.views id v u at same_tags queue item
-      (λ r i lt apart mine. (was_held r i apart mine, was_said last_tag (λ j es. refl) r i apart)) (λ x told. absurd (unsaid last_tag (λ j es. refl) x told)) holds.notes.tags
-
-  kept_tags' : WordsKnown held_at (tag_kept shape) (queues_in shape) (tag_in word') (set s.views id u)
-  kept_tags' = words_known_one FabricView (tag_kept shape) held_at (queues_in shape) (tag_in word) (tag_in word') s.views id v u at same_tags queue item
-      (λ r i lt apart mine. (was_held r i apart mine, λ x told. (was_said last_tag (λ j es. refl) r i apart x told.0, told.1))) (λ x told. absurd (unsaid last_tag (λ j es. refl) x told.0)) holds.notes.kept_tags
-
-  runs' : WordsKnown held_at run_said (queues_in shape) (run_in word') (set s.views id u)
-  runs' = words_known_one FabricView run_said held_at (queues_in shape) (run_in word) (run_in word') s.views id v u at same_runs queue item
-      (λ r i lt apart mine. (was_held r i apart mine, was_said last_run (λ j es. refl) r i apart)) (λ x told. absurd (unsaid last_run (λ j es. refl) x told)) holds.notes.runs
-
-  parts' : WordsKnown held_at part_said (queues_in shape) (part_in word') (set s.views id u)
-  parts' = words_known_one FabricView part_said held_at (queues_in shape) (part_in word) (part_in word') s.views id v u at same_parts queue item
-      (λ r i lt apart mine. (was_held r i apart mine, was_said last_part (λ j es. refl) r i apart)) (λ x told. absurd (unsaid last_part (λ j es. refl) x told)) holds.notes.parts
+  still : ItemsStill shape word word'
+  still = taken.still reply_of shape s holds id v at queue first_queue Line place entry saw full found u.ledgers
 
   -- the item wasn't got from the free ring
   was_got : (q i : ℕ) → (p : ℕ) → got_at q u i p → Holds (held_at q) i v × got_at q v i p
@@ -339,9 +180,9 @@ module _ {H : Type 0} (reply_of : List ℕ → Request → Reply) (shape : Shape
       let unarmed : is_armed i (item_log q v.log) ≡ false = elim (cases_eq q queue) [
         | inl is ↦
             let other : item ≢ i = λ same_item. absurd (omega (arith, not_mine, subst (λ (r : ℕ). 0 < held_at r (is_number i) v) is held, ap (λ (j : ℕ). held_at queue (is_number j) v) same_item)) in
-            let told : is_armed i (Taken Line item place ∷ item_log queue v.log) ≡ false = sym (ap (is_armed i) own_events) ∙ subst (λ (r : ℕ). is_armed i (item_log r u.log) ≡ false) is got.1 in
+            let told : is_armed i (Taken Line item place ∷ item_log queue v.log) ≡ false = sym (ap (is_armed i) (taken.own_events reply_of shape s holds id v at queue first_queue Line place entry saw full found u.ledgers)) ∙ subst (λ (r : ℕ). is_armed i (item_log r u.log) ≡ false) is got.1 in
             subst (λ (r : ℕ). is_armed i (item_log r v.log) ≡ false) (sym is) (sym (ap (λ (b : Bool). cond b false (is_armed i (item_log queue v.log))) (ne_eqb item i other)) ∙ told)
-        | inr ne ↦ subst (λ (es : List ItemEvent). is_armed i es ≡ false) (same_events q ne) got.1
+        | inr ne ↦ subst (λ (es : List ItemEvent). is_armed i es ≡ false) (taken.same_events reply_of shape s holds id v at queue first_queue Line place entry saw full found u.ledgers q ne) got.1
       ] in
       (held, (before, unarmed))
 
@@ -349,40 +190,21 @@ module _ {H : Type 0} (reply_of : List ℕ → Request → Reply) (shape : Shape
   arms' q lt =
       let heads : word' (Head q FreeSide) ≡ word (Head q FreeSide) = sets.others (Head q FreeSide) lt (λ is. absurd (cc is)) in
       arms_stay FabricView (got_at q) (arms_at q) (held_at q) (items_of shape q) (word (Head q FreeSide)) (word' (Head q FreeSide)) (tag_in word q) (tag_in word' q) (run_in word q) (run_in word' q) (part_in word q) (part_in word' q) s.views id v u at
-      (omega (arith, heads)) (λ i below_n. inr (same_tags q lt i below_n, same_runs q lt i below_n, same_parts q lt i below_n)) refl (λ i held p got. was_got q i p got) (holds.notes.arms q lt)
+      (omega (arith, heads)) (λ i below_n. inr (still.tags q lt i below_n, still.runs q lt i below_n, still.parts q lt i below_n)) refl (λ i held p got. was_got q i p got) (holds.notes.arms q lt)
 
   notes' : NotesAreTrue shape word' (set s.views id u)
-  notes' = record { rings = rings'; tags = tags'; kept_tags = kept_tags'; runs = runs'; parts = parts'; arms = arms' }
+  notes' = taken.items_taken reply_of shape s holds id v at queue first_queue Line place entry saw full found u.ledgers (λ x is. absurd (cc is)) arms'
 
   -- ---- views
 
-  moved : (q i : ℕ) → (q ≢ queue) ⊎ (i ≢ item) → item_of core' q i ≡ item_of core q i
-  moved q i apart =
-      elim (cases_eq q queue) [
-        | inl is ↦ ⊎_elim (λ ne. absurd (ne is)) (λ ne. subst (λ (r : ℕ). item_of core' r i ≡ item_of core r i) (sym is) (item_beside core core' queue item now changed i ne)) apart
-        | inr ne ↦ item_elsewhere core core' queue item now changed q i ne
-      ]
-
   items' : ItemsHeld core' (set s.views id u)
-  items' =
-      let was : (f : ℕ → ℕ → ℕ) → hand_weight f (item_of core queue item).whereabouts item ≡ 0 = λ f. ap (λ (x : Whereabouts). hand_weight f x item) in_line in
-      let is : (f : ℕ → ℕ → ℕ) → hand_weight f (item_of core' queue item).whereabouts item ≡ f v.seat item = λ f. ap (λ (x : Item). hand_weight f x.whereabouts item) (item_here core core' queue item now changed) in
-      item_moves core core' s.views id v u at same.shape queue item there.in_items (λ q i apart. ap (λ (x : Item). x.whereabouts) (moved q i apart))
-      (λ f. omega (arith, was f, is f, ap (λ (b : Bool). cond {A = ℕ} b (f v.seat item) 0) (eq-eqb queue queue refl)))
-      (λ q f ne. let none : cond {A = ℕ} (queue == q) (f v.seat item) 0 ≡ 0 = ap (λ (b : Bool). cond {A = ℕ} b (f v.seat item) 0) (ne_eqb queue q (λ is_queue. ne (sym is_queue))) in omega (arith, none))
-      holds.views.items
-
-  own_ledger : IsTrueLedger core holds.popped c
-  own_ledger =
-      let once : 1 ≤ lists_at c.seat v = omega (arith, ap (weigh (λ (d : Ledger). is_number c.seat d.seat)) main.only, is_number_same c.seat) in
-      let shown : ShowsLists core holds.popped c.seat v = holds.views.lists.each c.seat id v at once in
-      (subst (λ (cs : List Ledger). Each (λ (d : Ledger). d.seat ≡ c.seat → IsTrueLedger core holds.popped d) cs) main.only shown).0 refl
+  items' = taken.item_comes reply_of shape s holds id v at queue first_queue Line place entry saw full found u.ledgers core' same.shape there.in_items changed away
 
   lists' : (popped' : ℕ → List ℕ) → (role_of core v.seat ≡ 0 → popped' v.seat ≡ item ∷ []) → ((k : ℕ) → k ≢ v.seat → popped' k ≡ holds.popped k) → ListsShown core' popped' (set s.views id u)
   lists' popped' pops others =
       let as_many : (key : ℕ) → lists_at key u ≡ lists_at key v = λ key. sym (ap (weigh (λ (d : Ledger). is_number key d.seat)) main.only) in
       let mine_at : lists_at v.seat v ≡ 1 = ap (weigh (λ (d : Ledger). is_number v.seat d.seat)) main.only ∙ omega (arith, ap (is_number v.seat) main.number, is_number_same v.seat) in
-      let kept_ledger = ledger_same core core' holds.popped same c own_ledger in
+      let kept_ledger = ledger_same core core' holds.popped same c (own_ledger core holds.popped s.views id v c at main.only holds.views.lists) in
       keyed_step FabricView lists_at (ShowsLists core holds.popped) (ShowsLists core' popped') s.views id v u at
       (λ key. omega (arith, as_many key, holds.views.lists.once key))
       (λ key has. (
@@ -413,7 +235,7 @@ module _ {H : Type 0} (reply_of : List ℕ → Request → Reply) (shape : Shape
         items = λ q f.
             let old : popped_at shape q f v ≡ 0 =
             ap (weigh (λ (d : Ledger). cond (emptied_by shape d.seat == q) (weigh f d.popped) 0)) main.only
-            ∙ omega (arith, chosen_zero (emptied_by shape c.seat == q) (weigh f c.popped) (ap (weigh f) main.nothing)) in
+            ∙ omega (arith, nothing_of (emptied_by shape c.seat == q) (weigh f c.popped) (ap (weigh f) main.nothing)) in
             let now_popped : cond {A = ℕ} (emptied_by shape c.seat == q) (f item + 0) 0 ≡ cond {A = ℕ} (queue == q) (f item) 0 =
             ap (λ (m : ℕ). cond {A = ℕ} (m == q) (f item + 0) 0) own_queue ∙ one_more (queue == q) (f item) in
             omega (arith, rest.items q f, old, now_popped);
@@ -427,11 +249,13 @@ module _ {H : Type 0} (reply_of : List ℕ → Request → Reply) (shape : Shape
       let tails : (q : ℕ) → q < queues_of core.shape → (ring_in word q Free).tail ≤ (ring_in word' q Free).tail = λ q lt.
       let is : word' (Tail q FreeSide) ≡ word (Tail q FreeSide) = sets.others (Tail q FreeSide) (subst (λ (sh : Shape). q < queues_of sh) holds.shaped lt) (λ e. absurd (cc e)) in omega (arith, is) in
       views_stay shape word word' holds.popped holds.armed popped' holds.armed holds.records core core'
-      (record { lists = same; owners = pop_owner core v.seat queue item place; opened = pop_opened core v.seat queue item place; items = same_item }) s.views id v u at
-      (record { shape = refl; number = refl; chunks = refl; arms = refl; records = refl; kept = refl; out = refl; back = refl })
+      (streams_left core core' same same_item) s.views id v u at
+      (record { shape = refl; number = refl; arms = refl; records = refl; kept = refl })
       tails
       (record {
         items = items';
+        chunks = chunks_stay core core' s.views id v u at same.shape leaves.owners (λ f. refl) holds.views.chunks;
+        opens = opens_stay core core' s.views id v u at leaves.opened refl refl holds.views.opens;
         lists = lists' popped' pops others;
         numbers = λ k. sym (ap (weigh (λ (d : Ledger). is_number k d.seat)) main.only);
         works = works_stay core core' holds.armed s.views id v u at same refl refl refl holds.views.works;
@@ -444,7 +268,7 @@ module _ {H : Type 0} (reply_of : List ℕ → Request → Reply) (shape : Shape
   -- ---- the machine, slots
 
   popped_before : role_of core v.seat ≡ 0 → holds.popped v.seat ≡ []
-  popped_before engine = sym (ap holds.popped main.number) ∙ own_ledger.popped_item (ap (role_of core) main.number ∙ engine) ∙ main.nothing
+  popped_before engine = own_popped core holds.popped s.views id v c at main engine holds.views.lists ∙ main.nothing
 
   -- an item in the line of a back queue has a tag
   tagged : queue ≢ 0 → (item_of core queue item).tag ≢ 0
@@ -452,29 +276,11 @@ module _ {H : Type 0} (reply_of : List ℕ → Request → Reply) (shape : Shape
 
   pub pops : (popped' : ℕ → List ℕ) → (role_of core v.seat ≡ 0 → popped' v.seat ≡ item ∷ []) → ((k : ℕ) → k ≢ v.seat → popped' k ≡ holds.popped k) → PartsInOrder popped' holds.armed core'
       → (carried : List (ℕ × Option (Parcel H))) → IsMachineStep reply_of shape s holds (Pop v.seat queue item place) (stepped s (offset_of shape (Head queue LineSide)) (place + 1) id carried u keeps)
-  pops popped' pops_it others order carried = record {
-    enabled = link.enabled;
-    after = record {
-      wide = omega (arith, holds.wide, length-set s.words (offset_of shape (Head queue LineSide)) (place + 1));
-      core = core';
-      popped = popped';
-      armed = holds.armed;
-      records = holds.records;
-      shaped = shape';
-      keeps = record {
-        sound = link.sound;
-        items = by_role_stays core (Pop v.seat queue item place) holds.keeps.sound holds.keeps.items link.enabled;
-        seats = seats_by_role_stay core (Pop v.seat queue item place) holds.keeps.seats link.enabled;
-        order = order;
-      };
-      shows = link.shows;
-      notes = notes';
-      views = views' popped' pops_it others;
-      free = λ chunk lt is. holds.free chunk lt (sym (chunk_stays shape word word' (Head queue LineSide) (place + 1) sets (λ k e. absurd (cc e)) chunk lt) ∙ is);
-      filled = filled_stay H reply_of holds.records holds.records core core' s.homes s.homes same.shape (λ q i has armed. let it = same_item q i in (it.tag, it.run, it.part, refl, λ chunk in_run. refl)) holds.filled;
-    };
-    is = refl;
-  }
+  pops popped' pops_it others order carried =
+      step_made reply_of shape s holds (Pop v.seat queue item place) (set s.words (offset_of shape (Head queue LineSide)) (place + 1)) s.homes (set s.views id u) popped' holds.armed
+      (omega (arith, holds.wide, length-set s.words (offset_of shape (Head queue LineSide)) (place + 1))) link shape' order notes' (views' popped' pops_it others)
+      (λ chunk lt is. holds.free chunk lt (sym (chunk_stays shape word word' (Head queue LineSide) (place + 1) sets (λ k e. absurd (cc e)) chunk lt) ∙ is))
+      (filled_stay H reply_of holds.records holds.records core core' s.homes s.homes same.shape (λ q i has armed. let it = same_item q i in (it.tag, it.run, it.part, refl, λ chunk in_run. refl)) holds.filled)
 
   -- a worker, which pops no item of a back queue
   pub worker_pops : role_of core v.seat ≡ 1 → queue ≡ 0 → (carried : List (ℕ × Option (Parcel H))) → IsMachineStep reply_of shape s holds (Pop v.seat queue item place) (stepped s (offset_of shape (Head queue LineSide)) (place + 1) id carried u keeps)

@@ -50,7 +50,7 @@ module _ {H : Type 0} (reply_of : List ℕ → Request → Reply) (shape : Shape
 
   abbrev pub After : ℕ → Type 0
   After new = (u' : FabricView) × (a : Act (Option (Parcel H))) × Valid s.homes carried a × FabricHolds reply_of shape (stepped s index new id carried u' a)
-      × ((carried_after carried a ≡ carried) × (u'.chunks ≡ v.chunks) × PutsEntry H reply_of shape id queue side place entry step u v found u')
+      × ((carried_after carried a ≡ carried) × (u'.chunks ≡ v.chunks) × PutsEntry H reply_of shape id queue side item place entry step u v found u')
 
   -- right before the exchange and right after it
   abbrev moment : (new : ℕ) (u' : FabricView) → Moment H reply_of shape id v u'
@@ -70,7 +70,7 @@ module _ {H : Type 0} (reply_of : List ℕ → Request → Reply) (shape : Shape
         keeps,
         tt,
         made.after,
-        (refl, same_chunks, record { moment = moment now u; was = refl; won = λ same. refl; made = λ same. made; missed = λ ne. absurd (ne is); later = λ ne. absurd (ne is); none = λ ne. absurd (ne is) }),
+        (refl, same_chunks, record { moment = moment now u; was = refl; won = λ same. refl; words = λ same. refl; made = λ same. made; missed = λ ne. absurd (ne is); later = λ ne. absurd (ne is); none = λ ne. absurd (ne is) }),
       )
 
   -- the entry that was seen isn't there, so the line has passed the place
@@ -91,7 +91,7 @@ module _ {H : Type 0} (reply_of : List ℕ → Request → Reply) (shape : Shape
         keeps,
         tt,
         none.after,
-        (refl, refl, record { moment = moment found u'; was = refl; won = λ same. absurd (ne same); made = λ same. absurd (ne same); missed = λ other. refl; later = λ other. passed ne; none = λ other. none }),
+        (refl, refl, record { moment = moment found u'; was = refl; won = λ same. absurd (ne same); words = λ same. absurd (ne same); made = λ same. absurd (ne same); missed = λ other. refl; later = λ other. passed ne; none = λ other. none }),
       )
 
   pub exchanges : After (either (eqb found entry) now found)

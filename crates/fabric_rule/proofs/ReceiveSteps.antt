@@ -56,7 +56,8 @@ use Rattle.fabric_rule.specs.declared.view.Work.{Work}
 use Rattle.fabric_rule.specs.declared.view.Work.TheVariants.{Drawn, Posted, Taken, Sending, Holding}
 use Rattle.fabric_rule.proofs.KeyedSteps.{keyed_step}
 use Rattle.fabric_rule.proofs.Noting.{noted_else, noted_here}
-use Rattle.fabric_rule.proofs.OwnViews.{own_ledger, same_field}
+use Rattle.fabric_rule.proofs.Ledgers.{own_ledger}
+use Rattle.fabric_rule.proofs.Noting.{same_field}
 use Rattle.fabric_rule.proofs.SettleSteps.{IsNoted, comes, contents, kept_by_holder, notes_one, parcels, postings}
 use Rattle.fabric_rule.proofs.Sums.{each_gives}
 
@@ -317,7 +318,7 @@ module _ {H : Type 0} (reply_of : List ℕ → Request → Reply) (shape : Shape
     comes = comes reply_of shape s holds id v carried at queue item stream run_word there tag nonzero run_word_is may note note_is (λ l. refl) c c' Holding (Holding ∷ []) v.records ledger
         popped' holds.armed (λ is. none_popped) popped_others order
         (kept_by_holder reply_of shape s holds id v carried at queue item stream run_word there tag nonzero run_word_is may note note_is (λ l. refl) c c' Holding (Holding ∷ []) v.records ledger mine)
-        works' (postings reply_of shape s holds id v carried at queue item stream run_word there tag nonzero run_word_is may note note_is (λ l. refl) v (holds.views.records_known id v at)) in_work';
+        works' (postings reply_of shape s holds id v carried at queue item stream run_word there tag nonzero run_word_is may note note_is (λ l. refl) v (holds.views.records_known id v at)) (λ k. omega arith) in_work';
   }
 
 pub receive : (H : Type 0) → ReceiveLaw H

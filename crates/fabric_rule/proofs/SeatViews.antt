@@ -1,5 +1,5 @@
 -- What becomes of views in the splits that the table makes.
-use Rattle.std.proofs.Common.{ℕ, suc, ◌+◌, ◌-◌, ◌≡◌, ◌≢◌, ◌≤◌, ◌<◌, ◌==◌, map, inl, inr, cond, List, [], ◌∷◌, refl, sym, ap, ◌∙◌, subst, arith}
+use Rattle.std.proofs.Common.{ℕ, suc, ◌+◌, ◌-◌, ◌≡◌, ◌≢◌, ◌≤◌, ◌<◌, ◌==◌, ◌⊎◌, map, inl, inr, cond, List, [], ◌∷◌, refl, sym, ap, ◌∙◌, subst, arith}
 use Rattle.std.specs.Prelude.{Option}
 use Rattle.std.specs.List.{range_with_len}
 use Rattle.std.proofs.lemmas.Bool.{cases_lt, le-ltb, lt-ltb}
@@ -9,11 +9,14 @@ use Rattle.unit_model.specs.Weights.{weigh}
 use Rattle.unit_model.specs.declared.shape.Shape.{Shape}
 use Rattle.fabric_rule.specs.Contents.{CarriesSlots}
 use Rattle.fabric_rule.specs.Opening.{first_ledger, fresh_ledger, ledger_of}
-use Rattle.fabric_rule.specs.Seats.{HasItsArm, HasNoPost, HasOwnLists, IsAtRest, IsCut, IsJoined, IsParted, IsShared, MayAccount, MayBecome, MayEndAll, MayJoin, ended, ending, first_from, fresh_main, handed, handing_on, ledger_after, later_ledgers, lists_of, main_of, together, without_first_lists, without_lists, without_works, works_of}
+use Rattle.fabric_rule.specs.Parts.{IsIdle}
+use Rattle.fabric_rule.specs.Seats.{HasItsArm, HasNoPost, HasOwnLists, IsAtRest, IsCut, IsJoined, IsParted, IsShared, MayAccount, MayBecome, MayEndAll, MayJoin, TakesListsAlone, ended, ending, first_from, fresh_main, handed, handing_on, knowing, ledger_after, later_ledgers, lists_of, main_of, together, without_first_lists, without_lists, without_works, works_of}
 use Rattle.fabric_rule.specs.Views.{empty, emptied_by, held_at}
 use Rattle.fabric_rule.specs.declared.view.FabricView.{FabricView}
 use Rattle.fabric_rule.specs.declared.view.HeldItem.{HeldItem}
+use Rattle.fabric_rule.specs.declared.view.KeptItem.{KeptItem}
 use Rattle.fabric_rule.specs.declared.view.Ledger.{Ledger}
+use Rattle.fabric_rule.specs.declared.view.Work.{Work}
 use Rattle.fabric_rule.proofs.Hands.{nothing_of}
 use Rattle.fabric_rule.proofs.Sharing.{all_leave, all_stay}
 
@@ -37,40 +40,57 @@ each_first P (c ∷ cs) some each = each.0
 
 -- ---- splits
 
+-- a view is cut where arms, chunks, records and the log stay
+module _ (v : FabricView) (seat : ℕ) (ledgers : List Ledger) (works : List Work) (items : List HeldItem) (kept : List KeptItem) (off_ledgers : List Ledger) (off_works : List Work) (off_items : List HeldItem) (off_kept : List KeptItem) where
+  abbrev left : FabricView
+  left = record v { ledgers = ledgers; works = works; items = items; kept = kept }
+
+  abbrev right : FabricView
+  right = record (knowing seat v) { ledgers = off_ledgers; works = off_works; items = off_items; kept = off_kept }
+
+  cut_off : (seat ≡ v.seat) ⊎ TakesListsAlone right → IsShared v.ledgers ledgers off_ledgers → IsShared v.works works off_works → IsShared v.items items off_items → IsShared v.kept kept off_kept
+      → Each (HasItsArm v.arms) works → HasNoPost off_works → IsIdle v.shape left → IsIdle v.shape right → IsCut v left right
+  cut_off alone some_ledgers some_works some_items some_kept left_arms right_arms left_idle right_idle = record {
+    left_shape = refl;
+    right_shape = refl;
+    left_seat = refl;
+    right_seat = alone;
+    ledgers = some_ledgers;
+    works = some_works;
+    left_chunks = refl;
+    right_chunks = refl;
+    items = some_items;
+    kept = some_kept;
+    arms = all_stay v.arms;
+    left_records = refl;
+    right_records = refl;
+    left_log = refl;
+    right_log = refl;
+    left_arms = left_arms;
+    right_arms = right_arms;
+    left_idle = left_idle;
+    right_idle = right_idle;
+  }
+
+-- with no account changed before
+parted : (v l r : FabricView) → IsCut v l r → IsParted v l r
+parted v l r cut = record { between = v; becomes = inl refl; cut = cut }
+
 pub main_leaves : (v : FabricView) → IsAtRest v → v.ledgers ≢ [] → role_in v.shape (ledger_of v).seat ≤ 1 → IsParted v (without_first_lists v) (main_of (ledger_of v) v)
 main_leaves v rest some role =
     let none : (q : ℕ) (f : ℕ → ℕ) → held_at q f v ≡ 0 = λ q f. ap (weigh (λ (h : HeldItem). cond (h.queue == q) (f h.item) 0)) rest.items in
-    record {
-      between = v;
-      becomes = inl refl;
-      cut = record {
-        left_shape = refl;
-        right_shape = refl;
-        left_seat = refl;
-        right_seat = inr (record { role = role; works = refl; items = refl });
-        ledgers = first_off v.ledgers some;
-        works = all_stay v.works;
-        left_chunks = refl;
-        right_chunks = refl;
-        items = all_stay v.items;
-        kept = all_stay v.kept;
-        arms = all_stay v.arms;
-        left_records = refl;
-        right_records = refl;
-        left_log = refl;
-        right_log = refl;
-        left_arms = subst (Each (HasItsArm v.arms)) (sym rest.works) tt;
-        right_arms = tt;
-        left_idle = λ idle. record {
-          chunks = rest.chunks;
-          items = λ q f. none q f ∙ sym (popped_none v.shape q f (later_ledgers v.ledgers) (each_later (λ (c : Ledger). c.popped ≡ []) v.ledgers rest.popped));
-        };
-        right_idle = λ idle. record {
-          chunks = refl;
-          items = λ q f. sym (popped_none v.shape q f (ledger_of v ∷ []) (each_first (λ (c : Ledger). c.popped ≡ []) v.ledgers some rest.popped, tt));
-        };
-      };
-    }
+    let left_idle : IsIdle v.shape (without_first_lists v) = λ idle. record {
+      chunks = rest.chunks;
+      items = λ q f. none q f ∙ sym (popped_none v.shape q f (later_ledgers v.ledgers) (each_later (λ (c : Ledger). c.popped ≡ []) v.ledgers rest.popped));
+    } in
+    let right_idle : IsIdle v.shape (main_of (ledger_of v) v) = λ idle. record {
+      chunks = refl;
+      items = λ q f. sym (popped_none v.shape q f (ledger_of v ∷ []) (each_first (λ (c : Ledger). c.popped ≡ []) v.ledgers some rest.popped, tt));
+    } in
+    parted v (without_first_lists v) (main_of (ledger_of v) v)
+    (cut_off v (ledger_of v).seat (later_ledgers v.ledgers) v.works v.items v.kept (ledger_of v ∷ []) [] [] []
+    (inr (record { role = role; works = refl; items = refl })) (first_off v.ledgers some) (all_stay v.works) (all_stay v.items) (all_stay v.kept)
+    (subst (Each (HasItsArm v.arms)) (sym rest.works) tt) tt left_idle right_idle)
 
 -- the first seat gives away the lists of a number
 pub first_leaves : (shape : Shape) (number : ℕ) → number < shape.engines + shape.workers → IsParted (first_from shape number) (first_from shape (number + 1)) (fresh_main shape number)
@@ -97,57 +117,20 @@ first_leaves shape number lt =
     ]
 
 pub lists_leave : (v : FabricView) → v.works ≢ [] → Each (HasItsArm v.arms) v.works → Each (λ (c : Ledger). c.popped ≡ []) v.ledgers → IsParted v (without_lists v) (lists_of v)
-lists_leave v some posts popped = record {
-  between = v;
-  becomes = inl refl;
-  cut = record {
-    left_shape = refl;
-    right_shape = refl;
-    left_seat = refl;
-    right_seat = inl refl;
-    ledgers = all_leave v.ledgers;
-    works = all_stay v.works;
-    left_chunks = refl;
-    right_chunks = refl;
-    items = all_stay v.items;
-    kept = all_leave v.kept;
-    arms = all_stay v.arms;
-    left_records = refl;
-    right_records = refl;
-    left_log = refl;
-    right_log = refl;
-    left_arms = posts;
-    right_arms = tt;
-    left_idle = λ none. absurd (some none);
-    right_idle = λ none. record { chunks = refl; items = λ q f. sym (popped_none v.shape q f v.ledgers popped) };
-  };
-}
+lists_leave v some posts popped =
+    parted v (without_lists v) (lists_of v)
+    (cut_off v v.seat [] v.works v.items [] v.ledgers [] [] v.kept (inl refl) (all_leave v.ledgers) (all_stay v.works) (all_stay v.items) (all_leave v.kept) posts tt
+    (λ none. absurd (some none))
+    (λ none. record { chunks = refl; items = λ q f. sym (popped_none v.shape q f v.ledgers popped) }))
 
 works_cut : (v : FabricView) → v.works ≢ [] → HasNoPost v.works → v.chunks ≡ [] → Each (λ (c : Ledger). c.popped ≡ []) v.ledgers → IsCut v (without_works v) (works_of v)
-works_cut v some posts chunks popped = record {
-  left_shape = refl;
-  right_shape = refl;
-  left_seat = refl;
-  right_seat = inl refl;
-  ledgers = all_stay v.ledgers;
-  works = all_leave v.works;
-  left_chunks = refl;
-  right_chunks = refl;
-  items = all_leave v.items;
-  kept = all_stay v.kept;
-  arms = all_stay v.arms;
-  left_records = refl;
-  right_records = refl;
-  left_log = refl;
-  right_log = refl;
-  left_arms = tt;
-  right_arms = posts;
-  left_idle = λ none. record { chunks = chunks; items = λ q f. sym (popped_none v.shape q f v.ledgers popped) };
-  right_idle = λ none. absurd (some none);
-}
+works_cut v some posts chunks popped =
+    cut_off v v.seat v.ledgers [] [] v.kept [] v.works v.items [] (inl refl) (all_stay v.ledgers) (all_leave v.works) (all_leave v.items) (all_stay v.kept) tt posts
+    (λ none. record { chunks = chunks; items = λ q f. sym (popped_none v.shape q f v.ledgers popped) })
+    (λ none. absurd (some none))
 
 pub works_leave : (v : FabricView) → v.works ≢ [] → HasNoPost v.works → v.chunks ≡ [] → Each (λ (c : Ledger). c.popped ≡ []) v.ledgers → IsParted v (without_works v) (works_of v)
-works_leave v some posts chunks popped = record { between = v; becomes = inl refl; cut = works_cut v some posts chunks popped }
+works_leave v some posts chunks popped = parted v (without_works v) (works_of v) (works_cut v some posts chunks popped)
 
 pub popped_leaves : (v : FabricView) → HasOwnLists v → role_in v.shape v.seat ≢ 0 → HasNoPost v.works → v.chunks ≡ [] → IsParted v (without_works (handed v)) (works_of (handed v))
 popped_leaves v lists worker posts chunks =

@@ -1,7 +1,7 @@
 -- A worker sends a part of a reply.
 use Rattle.std.proofs.Common.{ℕ, ◌<◌, ◌+◌, ◌-◌, ◌*◌, ◌%◌, ◌≡◌, ◌≢◌, ◌≤◌, ◌==◌, ◌&&◌, ◌||◌, inl, inr, Bool, true, false, cond, if◌then◌else◌, List, [], ◌∷◌, ◌++◌, length, set, refl, sym, ap, ◌∙◌, subst, arith}
 use Rattle.std.specs.Prelude.{Option}
-use Rattle.std.proofs.lemmas.Bool.{cases_eq, eq-eqb, ne_eqb}
+use Rattle.std.proofs.lemmas.Bool.{eq-eqb, ne_eqb}
 use Rattle.std.proofs.lemmas.List.Folds.{list_any-append}
 use mathlib.Core.Option.{some}
 use lib.ListN.{get_elem?}
@@ -41,7 +41,7 @@ use Rattle.unit_types.specs.declared.message.Request.{Request}
 use Rattle.fabric_words.specs.Places.{HasItem, segments_of}
 use Rattle.fabric_rule.specs.Contents.{Carries, CarriesSlots, OfReply}
 use Rattle.fabric_rule.specs.FrameLaws.{NotesOne}
-use Rattle.fabric_rule.specs.Parts.{AwaitsReply, IsPosting, KnowsSending, KnowsTaken, KnowsWork, RecordsKnown, ShowsWorks, WorksShown, has_last}
+use Rattle.fabric_rule.specs.Parts.{KnowsSending, KnowsTaken, KnowsWork, RecordsKnown, ShowsWorks, WorksShown, has_last}
 use Rattle.fabric_rule.specs.Rule.{FabricHolds}
 use Rattle.fabric_rule.specs.Sending.{CarriesPart, PartGoes, SendLaw, queue_to, sent_part, with_sent, word_of_part, work_armed, work_before}
 use Rattle.fabric_rule.specs.Steps.{HasLists, slots_left, with_note as main_note}
@@ -49,14 +49,14 @@ use Rattle.fabric_rule.specs.Views.{draw_at, draw_weight, got_at, held_at, opens
 use Rattle.fabric_rule.specs.declared.sending.PartOut.{PartOut}
 use Rattle.fabric_rule.specs.declared.view.Ledger.{Ledger}
 use Rattle.fabric_rule.specs.declared.view.FabricView.{FabricView}
-use Rattle.fabric_rule.specs.declared.view.Posting.{Posting}
 use Rattle.fabric_rule.specs.declared.view.Work.{Work}
 use Rattle.app_queue.specs.Arms.{Arm as ArmedNote}
 use Rattle.fabric_rule.proofs.ArmParts.{OfLists, arms_else, arms_it, carries_now, go, hand, part_is, shape_same, untagged_now}
 use Rattle.fabric_rule.proofs.ArmSteps.{has_not_of_times, has_of_times, none_more}
 use Rattle.fabric_rule.proofs.Frames.{of_each}
 use Rattle.fabric_rule.proofs.KeyedSteps.{keyed_step}
-use Rattle.fabric_rule.proofs.Noting.{lists_noted, noted_else, noted_here, posted_kept, work_noted, work_stream}
+use Rattle.fabric_rule.proofs.Noting.{awaited, lists_noted, noted_here, posted_kept, work_noted, work_stream}
+use Rattle.fabric_rule.proofs.ListFrames.{records_stay, records_there}
 use Rattle.fabric_rule.proofs.Rearming.{armed_now, drawn_rearmed, puts_now}
 use Rattle.fabric_rule.proofs.Sums.{each_gives, sum_stays}
 use Rattle.fabric_rule.proofs.TakeSteps.{drawer_apart, taken_stream}
@@ -237,18 +237,6 @@ module _ {H : Type 0} (reply_of : List ℕ → Request → Reply) (shape : Shape
 
   -- ---- what else views say
 
-  postings : (ps : List Posting) → Each (IsPosting core holds.records) ps → Each (IsPosting core' holds.records) ps
-  postings ps old = each_gives (IsPosting core holds.records) (IsPosting core' holds.records) ps (λ p is. record { same = is.same; was = omega (arith, is.was, same_posted.all p.stream) }) old
-
-  still_open : (engine key : ℕ) → AwaitsReply (seat_of core' engine) key → AwaitsReply (seat_of core engine) key
-  still_open engine key awaits =
-      elim (cases_eq engine v.seat) [
-        | inl is ↦
-            let shown : AwaitsReply (noted note (seat_of core v.seat)) key = subst (λ (l : SeatLists). AwaitsReply l key) (ap (seat_of core') is ∙ mine_now) awaits in
-            subst (λ (k : ℕ). AwaitsReply (seat_of core k) key) (sym is) (record { was_posted = shown.was_posted; uncancelled = shown.uncancelled; unabandoned = shown.unabandoned; unreceived = shown.unreceived })
-        | inr away ↦ subst (λ (l : SeatLists). AwaitsReply l key) (noted_else core core' v.seat note notes_one engine away) awaits
-      ]
-
   counts_same : (k : ℕ) → opens_at k u + works_at k v ≡ opens_at k v + works_at k u
   counts_same k =
       let opens_v : opens_at k v ≡ cond {A = ℕ} (c.seat == k) c.opened_works 0 + 0 = ap (weigh (λ (d : Ledger). cond (d.seat == k) d.opened_works 0)) main.main.only in
@@ -263,14 +251,15 @@ module _ {H : Type 0} (reply_of : List ℕ → Request → Reply) (shape : Shape
       let old = holds.views in
       record {
         posts = λ key. sum_stays (posts_at key) s.views id v u at (no_post key) ∙ old.posts key ∙ sym (same_posted.all key);
-        records_known = of_each (RecordsKnown core holds.records) (RecordsKnown core' holds.records) s.views id u (postings v.records (old.records_known id v at)) (λ y. postings y.records) old.records_known;
+        records_known = of_each (RecordsKnown core holds.records) (RecordsKnown core' holds.records) s.views id u (records_stay core core' holds.records v u same_posted.all refl (old.records_known id v at)) (λ y. records_stay core core' holds.records y y same_posted.all refl) old.records_known;
+        records_there = records_there core core' s.views id v u at (λ k. omega (arith, same_posted.all k)) (λ k. omega arith) old.records_there;
         lists = lists_noted core core' note holds.popped holds.popped s.views id v u c (main_note note 0 c) at notes_one main.main.only main.main.number refl refl refl refl
             (λ engine. absurd (omega (arith, engine, role))) (λ k ne. refl) old.lists;
         numbers = λ k. sym (ap (weigh (λ (d : Ledger). is_number k d.seat)) main.main.only);
         works = works';
         counted = counts_same;
         busy = λ spent. absurd (cc spent);
-        in_work = λ engine key awaits. omega (arith, old.in_work engine key (still_open engine key awaits), sum_stays (draw_at key) s.views id v u at (sym (none_draws key)));
+        in_work = λ engine key awaits. omega (arith, old.in_work engine key (awaited core core' v.seat note notes_one (λ l. (refl, refl, refl, refl)) engine key awaits), sum_stays (draw_at key) s.views id v u at (sym (none_draws key)));
         order = arm_in_order holds.popped holds.armed armed' core holds.keeps.sound holds.keeps.order v.seat part.poster item stream fills
             (hand reply_of shape s holds id v carried homes_are at carries queue item place stream run_word (word_of_part part) there mine got said said_part fits message.parcels message.long message.values fills may new_ledgers new_works v.records) (untagged_now reply_of shape s holds id v carried homes_are at carries queue item place stream run_word (word_of_part part) there mine got said said_part fits message.parcels message.long message.values fills may new_ledgers new_works v.records) (subst (MaySend core v.seat queue item stream) (sym (part_is reply_of shape s holds id v carried homes_are at carries queue item place stream run_word (word_of_part part) there mine got said said_part fits message.parcels message.long message.values fills may new_ledgers new_works v.records)) may_send) puts;
       }

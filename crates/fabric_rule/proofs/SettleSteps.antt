@@ -3,7 +3,7 @@
 use Rattle.std.proofs.Common.{ℕ, ◌+◌, ◌*◌, ◌≡◌, ◌≢◌, ◌≤◌, ◌<◌, ◌⊎◌, ◌==◌, inl, inr, ⊎_elim, Bool, true, false, cond, List, [], ◌∷◌, ◌++◌, length, set, refl, sym, ap, ◌∙◌, subst, arith, length-set, Some}
 use Rattle.std.specs.Prelude.{Option}
 use Rattle.std.specs.List.{range_with_len}
-use Rattle.std.proofs.lemmas.Bool.{cases_eq, eq-eqb, ne_eqb}
+use Rattle.std.proofs.lemmas.Bool.{eq-eqb, ne_eqb}
 use mathlib.Core.Option.{some}
 use lib.ListN.{get_elem?}
 use Rattle.atomic_table.specs.Table.{State, Valid, carried_after, homes_after, stepped}
@@ -42,16 +42,13 @@ use Rattle.unit_model.specs.declared.machine.Note.{Note}
 use Rattle.unit_model.specs.declared.machine.Owner.{Owner}
 use Rattle.unit_model.specs.declared.machine.Owner.TheVariants as owner
 use Rattle.unit_model.specs.declared.machine.Seat.{Seat as SeatLists}
-use Rattle.unit_model.specs.declared.machine.Sides.{Sides}
 use Rattle.unit_model.specs.declared.machine.Step.TheVariants.{Settle}
 use Rattle.unit_model.specs.declared.runs.Run.{Run}
 use Rattle.unit_model.specs.declared.shape.Shape.{Shape}
 use Rattle.unit_model.proofs.ChangedCore.{set_all_outside}
 use Rattle.unit_model.proofs.HeldChunkSteps.{run_is_there}
-use Rattle.unit_model.proofs.ItemChanges.{SetsItem, item_beside, item_elsewhere, item_here}
+use Rattle.unit_model.proofs.ItemChanges.{SetsItem, item_here}
 use Rattle.unit_model.proofs.MetSteps.{role_is_there}
-use Rattle.unit_model.proofs.RoleLists.{seats_by_role_stay}
-use Rattle.unit_model.proofs.RoleSteps.{by_role_stays}
 use Rattle.unit_model.proofs.SeatNotes.{Adds, Stays, stays}
 use Rattle.unit_model.proofs.StepFacts.{adds_after_settle, sets_after_settle}
 use Rattle.unit_model.proofs.Weights.{below_none, below_same, weigh-append, weigh_range}
@@ -70,24 +67,25 @@ use Rattle.fabric_words.proofs.Standing.{set_word}
 use Rattle.fabric_rule.specs.Contents.{ArmedFilled, Carries, CarriesSlots}
 use Rattle.fabric_rule.specs.FrameLaws.{NotesOne, StaysUntagged}
 use Rattle.fabric_rule.specs.Hands.{items_elsewhere}
-use Rattle.fabric_rule.specs.Parts.{ChunksHeld, IsIdle, IsPosting, KeptAreWorn, OpensNoted, PostsInWork, RecordsKnown, WorksShown, owner_weight}
+use Rattle.fabric_rule.specs.Parts.{ChunksHeld, IsIdle, IsPosting, KeptAreWorn, PostsInWork, RecordsKnown, WorksShown, owner_weight}
 use Rattle.fabric_rule.specs.Passing.{OthersStay, SlotsCome, first_of}
 use Rattle.fabric_rule.specs.Rule.{FabricHolds, NotesAreTrue, ViewsShow}
 use Rattle.fabric_rule.specs.Settling.{MessageComes, with_settled}
 use Rattle.fabric_rule.specs.Steps.{IsMachineStep}
-use Rattle.fabric_rule.specs.Views.{arms_at, got_at, held_at, item_log, log_at, open_noted, opens_at, part_in, part_said, posts_at, queues_in, ring_in, run_in, run_said, tag_in, tag_kept, tag_said, word_side, works_at}
-use Rattle.fabric_rule.specs.declared.event.Segments.TheVariants.{Out, Back}
+use Rattle.fabric_rule.specs.Views.{arms_at, got_at, held_at, item_log, log_at, opens_at, part_in, part_said, queues_in, ring_in, run_in, run_said, tag_in, tag_kept, tag_said, word_side, works_at, records_at}
 use Rattle.fabric_rule.specs.declared.view.Ledger.{Ledger}
 use Rattle.fabric_rule.specs.declared.view.FabricView.{FabricView}
 use Rattle.fabric_rule.specs.declared.view.Posting.{Posting}
 use Rattle.fabric_rule.specs.declared.view.Work.{Work}
 use Rattle.fabric_rule.proofs.Contents.{kept_stay, kept_untagged}
-use Rattle.fabric_rule.proofs.Frames.{chunks_move, items_stay, of_each, of_fabric}
+use Rattle.fabric_rule.proofs.Frames.{chunks_move, items_stay, of_each, of_fabric, opens_stay}
+use Rattle.fabric_rule.proofs.RuleSteps.{step_made}
+use Rattle.fabric_rule.proofs.Staying.{unchanged}
 use Rattle.fabric_rule.proofs.Hands.{hands_owned}
-use Rattle.fabric_rule.proofs.ListFrames.{counted_stay, lists_there, streams_stay}
+use Rattle.fabric_rule.proofs.ListFrames.{counted_stay, lists_there, posts_stay, records_stay, streams_stay, records_there}
 use Rattle.fabric_rule.proofs.Noting.{lists_noted}
 use Rattle.fabric_rule.proofs.Passing.{slots_come, this_or_other}
-use Rattle.fabric_rule.proofs.Sums.{each_gives, sum_stays, weigh_numbers}
+use Rattle.fabric_rule.proofs.Sums.{weigh_numbers}
 
 -- ---- what Settle leaves of a core
 
@@ -204,11 +202,7 @@ module _ {H : Type 0} (reply_of : List ℕ → Request → Reply) (shape : Shape
   same_posted = stays posted core core' v.seat note adds posts_same
 
   others : OthersStay core core' queue item
-  others q i apart =
-      elim (cases_eq q queue) [
-        | inl is ↦ ⊎_elim (λ ne. absurd (ne is)) (λ ne. subst (λ (r : ℕ). item_of core' r i ≡ item_of core r i) (sym is) (item_beside core core' queue item now changed i ne)) apart
-        | inr ne ↦ item_elsewhere core core' queue item now changed q i ne
-      ]
+  others = unchanged core core' queue item now changed
 
   here : item_of core' queue item ≡ now
   here = item_here core core' queue item now changed
@@ -241,7 +235,7 @@ module _ {H : Type 0} (reply_of : List ℕ → Request → Reply) (shape : Shape
 
   -- records that a view has are of posted streams still
   pub postings : (y : FabricView) → RecordsKnown core holds.records y → RecordsKnown core' holds.records y
-  postings y old = each_gives (IsPosting core holds.records) (IsPosting core' holds.records) y.records (λ (p : Posting) is. record { same = is.same; was = omega (arith, is.was, same_posted.all p.stream) }) old
+  postings y = records_stay core core' holds.records y y same_posted.all refl
 
   -- ---- the seat's view
 
@@ -375,16 +369,8 @@ module _ {H : Type 0} (reply_of : List ℕ → Request → Reply) (shape : Shape
         (λ f. omega (arith, was f, is f, weigh-append (f v.seat) (run_numbers run) v.chunks, ap (weigh (f v.seat)) numbers_are))
         holds.views.chunks
 
-    opens_same : (y : FabricView) → OpensNoted core y → OpensNoted core' y
-    opens_same y old =
-        let is : core'.opened ≡ core.opened = settled_opened core v.seat queue item stream in
-        record {
-          out = subst (λ (o : Sides). open_noted Out y ≤ o.out) (sym is) old.out;
-          back = subst (λ (o : Sides). open_noted Back y ≤ o.back) (sym is) old.back;
-        }
-
     module _ (popped' armed' : ℕ → List ℕ) (popped_mine : role_of core v.seat ≡ 0 → popped' v.seat ≡ c'.popped) (popped_others : (k : ℕ) → k ≢ v.seat → popped' k ≡ holds.popped k) (order : PartsInOrder popped' armed' core')
-        (kept_tags' : WordsKnown held_at (tag_kept shape) (queues_in shape) (tag_in word') (set s.views id u)) (works' : WorksShown core' armed' (set s.views id u)) (known : Each (IsPosting core' holds.records) rs) (in_work' : PostsInWork core' (set s.views id u)) where
+        (kept_tags' : WordsKnown held_at (tag_kept shape) (queues_in shape) (tag_in word') (set s.views id u)) (works' : WorksShown core' armed' (set s.views id u)) (known : Each (IsPosting core' holds.records) rs) (more : (key : ℕ) → records_at key v ≤ weigh (λ (p : Posting). is_number key p.stream) rs) (in_work' : PostsInWork core' (set s.views id u)) where
       views' : ViewsShow shape word' popped' armed' holds.records core' (set s.views id u)
       views' =
           let old = holds.views in
@@ -395,10 +381,11 @@ module _ {H : Type 0} (reply_of : List ℕ → Request → Reply) (shape : Shape
             there = of_fabric core core' s.views id v u at shape_same refl refl old.there;
             items = items_stay core core' s.views id v u at shape_same (λ q i lt. (same_item q i).place) (λ q f. refl) old.items;
             chunks = chunks';
-            opens = of_each (OpensNoted core) (OpensNoted core') s.views id u (record { out = (opens_same v (old.opens id v at)).out; back = (opens_same v (old.opens id v at)).back }) opens_same old.opens;
-            posts = λ key. sum_stays (posts_at key) s.views id v u at refl ∙ old.posts key ∙ sym (same_posted.all key);
+            opens = opens_stay core core' s.views id v u at (settled_opened core v.seat queue item stream) refl refl old.opens;
+            posts = posts_stay core core' s.views id v u at same_posted.all refl old.posts;
             streams = streams_stay core core' s.views id v u at shape_same (λ q i. (same_item q i).last) refl old.streams;
             records_known = of_each (RecordsKnown core holds.records) (RecordsKnown core' holds.records) s.views id u known postings old.records_known;
+            records_there = records_there core core' s.views id v u at (λ k. omega (arith, same_posted.all k)) more old.records_there;
             lists = lists_noted core core' note holds.popped popped' s.views id v u c c' at notes_one ledger.only ledger.number refl ledger.seat ledger.lists ledger.refusals popped_mine popped_others old.lists;
             lists_there = lists_there core core' s.views id v u at shape_same (λ k. ap (λ (n : ℕ). is_number k n + 0) ledger.seat ∙ sym (ap (weigh (λ (d : Ledger). is_number k d.seat)) ledger.only)) old.lists_there;
             works = works';
@@ -435,29 +422,10 @@ module _ {H : Type 0} (reply_of : List ℕ → Request → Reply) (shape : Shape
           let free_now : FreeSlots (segment_chunks * segments_of shape) (map_of word) (homes_after s.homes carried (takes_all coming)) =
           subst (λ (n : ℕ). FreeSlots (segment_chunks * segments_of shape) (map_of word) (homes_after s.homes carried (takes_all (full_run n come.parcels)))) first_is
           (subst (λ (sh : Shape). FreeSlots (segment_chunks * segments_of sh) (map_of word) (homes_after s.homes carried (takes_all (full_run (first_of it.run) come.parcels)))) shape' come.free) in
-          record {
-            enabled = link.enabled;
-            after = record {
-              wide = omega (arith, holds.wide, length-set s.words (offset_of shape (Tag queue item)) 0);
-              core = core';
-              popped = popped';
-              armed = armed';
-              records = holds.records;
-              shaped = shape';
-              keeps = record {
-                sound = link.sound;
-                items = by_role_stays core (Settle v.seat queue item stream) holds.keeps.sound holds.keeps.items link.enabled;
-                seats = seats_by_role_stay core (Settle v.seat queue item stream) holds.keeps.seats link.enabled;
-                order = order;
-              };
-              shows = link.shows;
-              notes = notes' kept_tags';
-              views = views';
-              free = λ chunk lt is_set. free_now chunk lt (sym (chunk_stays shape word word' (Tag queue item) 0 sets (λ k e. absurd (cc e)) chunk lt) ∙ is_set);
-              filled = subst (λ (n : ℕ). ArmedFilled reply_of holds.records core' (homes_after s.homes carried (takes_all (full_run n come.parcels)))) first_is come.filled;
-            };
-            is = refl;
-          }
+          step_made reply_of shape s holds (Settle v.seat queue item stream) (set s.words (offset_of shape (Tag queue item)) 0) (homes_after s.homes carried (takes_all coming)) (set s.views id u) popped' armed'
+          (omega (arith, holds.wide, length-set s.words (offset_of shape (Tag queue item)) 0)) link shape' order (notes' kept_tags') views'
+          (λ chunk lt is_set. free_now chunk lt (sym (chunk_stays shape word word' (Tag queue item) 0 sets (λ k e. absurd (cc e)) chunk lt) ∙ is_set))
+          (subst (λ (n : ℕ). ArmedFilled reply_of holds.records core' (homes_after s.homes carried (takes_all (full_run n come.parcels)))) first_is come.filled)
 
       pub comes : MessageComes reply_of shape s holds id v carried queue item stream run parcels u
       comes = record {

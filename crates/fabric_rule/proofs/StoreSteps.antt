@@ -1,7 +1,6 @@
 -- A seat stores the run or the part word of an item that it got.
-use Rattle.std.proofs.Common.{ℕ, ◌≡◌, ◌≢◌, ◌≤◌, ◌<◌, ◌⊎◌, ◌==◌, inl, inr, ⊎_elim, Bool, true, false, List, [], ◌∷◌, length, set, refl, sym, ap, ◌∙◌, subst, arith, length-set}
+use Rattle.std.proofs.Common.{ℕ, ◌≡◌, ◌≢◌, ◌<◌, ◌⊎◌, ◌==◌, inl, inr, ⊎_elim, Bool, true, false, List, ◌∷◌, length, set, refl, sym, ap, ◌∙◌, subst, arith, length-set}
 use Rattle.std.specs.Prelude.{Option}
-use Rattle.std.proofs.lemmas.Bool.{cases_eq}
 use mathlib.Core.Option.{some}
 use lib.ListN.{get_elem?}
 use Rattle.atomic_table.specs.Table.{State, keeps, stepped}
@@ -16,8 +15,8 @@ use Rattle.app_queue.proofs.RingFrames.{rings_stay}
 use Rattle.port_message.specs.Words.{numbers_of}
 use Rattle.port_message.proofs.RunWords.{packed_numbers}
 use Rattle.request_context.specs.declared.piece.Parcel.{Parcel}
-use Rattle.unit_model.specs.Core.{item_of, owner_of, queue_of}
-use Rattle.unit_model.specs.Effects.{after_step, with_item}
+use Rattle.unit_model.specs.Core.{item_of, queue_of}
+use Rattle.unit_model.specs.Effects.{after_step}
 use Rattle.unit_model.specs.Holding.{FitsQueue, items_of}
 use Rattle.unit_model.specs.PartOrder.{IsOther}
 use Rattle.unit_model.specs.Premises.{Fills, IsInHand}
@@ -25,12 +24,12 @@ use Rattle.unit_model.specs.Shapes.{role_in}
 use Rattle.unit_model.specs.Sharing.{Owned}
 use Rattle.unit_model.specs.declared.machine.Core.{Core}
 use Rattle.unit_model.specs.declared.machine.Item.{Item}
-use Rattle.unit_model.specs.declared.machine.Sides.{Sides}
 use Rattle.unit_model.specs.declared.machine.Step.{Step}
 use Rattle.unit_model.specs.declared.machine.Step.TheVariants.{SetPart, SetRun}
 use Rattle.unit_model.specs.declared.runs.Run.{Run}
 use Rattle.unit_model.specs.declared.shape.Shape.{Shape}
-use Rattle.unit_model.proofs.ItemChanges.{SetsItem, item_beside, item_elsewhere, item_here}
+use Rattle.unit_model.proofs.ItemChanges.{SetsItem, item_here}
+use Rattle.unit_model.proofs.PartOrderOthers.{others_in_order}
 use Rattle.unit_model.proofs.StepFacts.{sets_after_part, sets_after_run}
 use Rattle.unit_types.specs.declared.message.Reply.{Reply}
 use Rattle.unit_types.specs.declared.message.Request.{Request}
@@ -47,48 +46,21 @@ use Rattle.fabric_words.proofs.Frames.{apart, chunk_stays, ring_stays}
 use Rattle.fabric_words.proofs.Standing.{set_word}
 use Rattle.fabric_rule.specs.FrameLaws.{SameLists}
 use Rattle.fabric_rule.specs.Hands.{items_elsewhere}
-use Rattle.fabric_rule.specs.Parts.{OpensNoted}
 use Rattle.fabric_rule.specs.Rule.{FabricHolds, NotesAreTrue}
 use Rattle.fabric_rule.specs.Steps.{IsMachineStep}
 use Rattle.fabric_rule.specs.Storing.{HasRun, MayWrite, StorePartLaw, StoreRunLaw}
-use Rattle.fabric_rule.specs.Views.{arms_at, got_at, held_at, log_at, logged, open_noted, part_in, part_said, queues_in, ring_in, run_in, run_said, tag_in, tag_kept, tag_said, word_side}
+use Rattle.fabric_rule.specs.Views.{arms_at, got_at, held_at, log_at, logged, part_in, part_said, queues_in, ring_in, run_in, run_said, tag_in, tag_kept, tag_said, word_side}
 use Rattle.fabric_rule.specs.declared.event.FabricEvent.TheVariants.{AtItem}
-use Rattle.fabric_rule.specs.declared.event.Segments.TheVariants.{Out, Back}
 use Rattle.fabric_rule.specs.declared.view.FabricView.{FabricView}
-use Rattle.fabric_rule.proofs.Beside.{IsWhereItWas, keeps_beside, tails_same, views_beside}
+use Rattle.fabric_rule.proofs.Beside.{IsWhereItWas, tails_same, views_beside}
 use Rattle.fabric_rule.proofs.Contents.{filled_stay}
-use Rattle.fabric_rule.proofs.Frames.{chunks_stay, of_each}
+use Rattle.fabric_rule.proofs.CoreSteps.{LeavesSeats, part_leaves, run_leaves}
+use Rattle.fabric_rule.proofs.RuleSteps.{step_made}
+use Rattle.fabric_rule.proofs.Staying.{unchanged}
+use Rattle.fabric_rule.proofs.Frames.{chunks_stay, opens_stay}
 use Rattle.fabric_rule.proofs.Hands.{chunk_in_hand, hands_owned, in_hand}
 use Rattle.fabric_rule.proofs.ItemLooks.{said, said_else, said_here}
 use Rattle.fabric_rule.proofs.Passing.{this_or_other}
-
--- ---- what SetRun and SetPart leave of a core
-
-module _ (core : Core) (seat queue item : ℕ) (run : Run) where
-  run_lists : SameLists core (after_step core (SetRun seat queue item run))
-  unfolding after_step with_item
-  run_lists = record { shape = refl; seats = refl }
-
-  run_owner : (chunk : ℕ) → owner_of (after_step core (SetRun seat queue item run)) chunk ≡ owner_of core chunk
-  unfolding after_step with_item
-  run_owner chunk = refl
-
-  run_opened : (after_step core (SetRun seat queue item run)).opened ≡ core.opened
-  unfolding after_step with_item
-  run_opened = refl
-
-module _ (core : Core) (seat queue item part : ℕ) where
-  part_lists : SameLists core (after_step core (SetPart seat queue item part))
-  unfolding after_step with_item
-  part_lists = record { shape = refl; seats = refl }
-
-  part_owner : (chunk : ℕ) → owner_of (after_step core (SetPart seat queue item part)) chunk ≡ owner_of core chunk
-  unfolding after_step with_item
-  part_owner chunk = refl
-
-  part_opened : (after_step core (SetPart seat queue item part)).opened ≡ core.opened
-  unfolding after_step with_item
-  part_opened = refl
 
 -- a word of an item that isn't its tag
 abbrev is_written : Place → Bool
@@ -188,52 +160,31 @@ module _ {H : Type 0} (reply_of : List ℕ → Request → Reply) (shape : Shape
 
   -- ---- the step
 
-  made : (step : Step) → IsOther step → IsStep word' core step → SameLists core (after_step core step) → ((chunk : ℕ) → owner_of (after_step core step) chunk ≡ owner_of core chunk) → (after_step core step).opened ≡ core.opened
+  made : (step : Step) → IsOther step → IsStep word' core step → LeavesSeats core (after_step core step)
       → (now : Item) → SetsItem core (after_step core step) queue item now → IsWhereItWas (item_of core queue item) now
       → NotesAreTrue shape word' (set s.views id u) → (carried : List (ℕ × Option (Parcel H)))
       → IsMachineStep reply_of shape s holds step (stepped s (offset_of shape place) x id carried u keeps)
-  made step other_step link same owners opened now changed as_before notes' carried =
+  made step other_step link leaves now changed as_before notes' carried =
       let core' : Core = after_step core step in
-      let others : (q i : ℕ) → (q ≢ queue) ⊎ (i ≢ item) → item_of core' q i ≡ item_of core q i = λ q i apart_from.
-      elim (cases_eq q queue) [
-        | inl is ↦ ⊎_elim (λ ne. absurd (ne is)) (λ ne. subst (λ (r : ℕ). item_of core' r i ≡ item_of core r i) (sym is) (item_beside core core' queue item now changed i ne)) apart_from
-        | inr ne ↦ item_elsewhere core core' queue item now changed q i ne
-      ] in
+      let same : SameLists core core' = leaves.lists in
+      let others : (q i : ℕ) → (q ≢ queue) ⊎ (i ≢ item) → item_of core' q i ≡ item_of core q i = unchanged core core' queue item now changed in
       let here : IsWhereItWas (item_of core queue item) (item_of core' queue item) = subst (IsWhereItWas (item_of core queue item)) (sym (item_here core core' queue item now changed)) as_before in
       let items : (q i : ℕ) → IsWhereItWas (item_of core q i) (item_of core' q i) = λ q i. ⊎_elim
       (λ this. subst (λ (r : ℕ). IsWhereItWas (item_of core r i) (item_of core' r i)) (sym this.0) (subst (λ (j : ℕ). IsWhereItWas (item_of core queue j) (item_of core' queue j)) (sym this.1) here))
       (λ other. subst (IsWhereItWas (item_of core q i)) (sym (others q i other)) (record { tag = refl; place = refl; last = refl }))
       (this_or_other queue item q i) in
-      let opens_same : (y : FabricView) → OpensNoted core y → OpensNoted core' y = λ y old. record {
-        out = subst (λ (o : Sides). open_noted Out y ≤ o.out) (sym opened) old.out;
-        back = subst (λ (o : Sides). open_noted Back y ≤ o.back) (sym opened) old.back;
-      } in
-      let mine : OpensNoted core' v = opens_same v (holds.views.opens id v at) in
-      let idle : v.works ≡ [] → v.chunks ≡ [] = λ none. (holds.views.idle id v at none).chunks in
-      record {
-        enabled = link.enabled;
-        after = record {
-          wide = omega (arith, holds.wide, length-set s.words (offset_of shape place) x);
-          core = core';
-          popped = holds.popped;
-          armed = holds.armed;
-          records = holds.records;
-          shaped = same.shape ∙ holds.shaped;
-          keeps = keeps_beside holds.popped holds.armed core step other_step link.enabled link.sound holds.keeps;
-          shows = link.shows;
-          notes = notes';
-          views = views_beside shape word word' holds.popped holds.armed holds.records core core' s.views id v at v.chunks (AtItem queue e) same items (tails_same core shape word word' holds.shaped rings_same)
-              (chunks_stay core core' s.views id v u at same.shape owners (λ f. refl) holds.views.chunks)
-              (of_each (OpensNoted core) (OpensNoted core') s.views id u (record { out = mine.out; back = mine.back }) opens_same holds.views.opens) idle holds.views;
-          free = λ chunk lt is_set. holds.free chunk lt (sym (chunk_stays shape word word' place x sets (λ k. off (Chunks k) refl) chunk lt) ∙ is_set);
-          filled = filled_stay H reply_of holds.records holds.records core core' s.homes s.homes same.shape
-              (λ q i has armed. ⊎_elim
-              (λ this. absurd (armed (subst (λ (r : ℕ). (item_of core' r i).tag ≡ 0) (sym this.0) (subst (λ (j : ℕ). (item_of core' queue j).tag ≡ 0) (sym this.1) (here.tag ∙ was_zero reply_of shape s holds id v at queue item may)))))
-              (λ other. let is = others q i other in (ap (λ (y : Item). y.tag) is, ap (λ (y : Item). y.run) is, ap (λ (y : Item). y.part) is, refl, λ chunk in_run. refl))
-              (this_or_other queue item q i)) holds.filled;
-        };
-        is = refl;
-      }
+      step_made reply_of shape s holds step (set s.words (offset_of shape place) x) s.homes (set s.views id u) holds.popped holds.armed
+      (omega (arith, holds.wide, length-set s.words (offset_of shape place) x)) link (same.shape ∙ holds.shaped)
+      (others_in_order holds.popped holds.armed core step holds.keeps.sound holds.keeps.order other_step link.enabled) notes'
+      (views_beside shape word word' holds.popped holds.armed holds.records core core' s.views id v at v.chunks (AtItem queue e) same items (tails_same core shape word word' holds.shaped rings_same)
+      (chunks_stay core core' s.views id v u at same.shape leaves.owners (λ f. refl) holds.views.chunks) (opens_stay core core' s.views id v u at leaves.opened refl refl holds.views.opens)
+      (λ none. (holds.views.idle id v at none).chunks) holds.views)
+      (λ chunk lt is_set. holds.free chunk lt (sym (chunk_stays shape word word' place x sets (λ k. off (Chunks k) refl) chunk lt) ∙ is_set))
+      (filled_stay H reply_of holds.records holds.records core core' s.homes s.homes same.shape
+      (λ q i has armed. ⊎_elim
+      (λ this. absurd (armed (subst (λ (r : ℕ). (item_of core' r i).tag ≡ 0) (sym this.0) (subst (λ (j : ℕ). (item_of core' queue j).tag ≡ 0) (sym this.1) (here.tag ∙ was_zero reply_of shape s holds id v at queue item may)))))
+      (λ other. let is = others q i other in (ap (λ (y : Item). y.tag) is, ap (λ (y : Item). y.run) is, ap (λ (y : Item). y.part) is, refl, λ chunk in_run. refl))
+      (this_or_other queue item q i)) holds.filled)
 
 -- ---- each
 
@@ -272,7 +223,7 @@ module _ {H : Type 0} (reply_of : List ℕ → Request → Reply) (shape : Shape
       (λ q lt i below_n. sets_run.others (PartWord q i) (record { in_queues = lt; in_items = below_n }) (λ is. absurd (cc is)))
       (λ q i mine. (mine, λ y told. sym (said reply_of shape s holds id v at queue may.there.in_queues (Option ℕ) last_part e (λ j es. refl) q i) ∙ told)) holds.notes.parts in
       made reply_of shape s holds id v at queue item may place x may.there refl off_rings e (λ i es. refl) (λ i es. refl)
-      (SetRun v.seat queue item run) tt link (run_lists core v.seat queue item run) (run_owner core v.seat queue item run) (run_opened core v.seat queue item run) (record (item_of core queue item) { run = run })
+      (SetRun v.seat queue item run) tt link (run_leaves core v.seat queue item run) (record (item_of core queue item) { run = run })
       (sets_after_run core v.seat queue item run (inside reply_of shape s holds id v at queue item may)) (record { tag = refl; place = refl; last = refl })
       (notes_of reply_of shape s holds id v at queue item may place x may.there refl off_rings e (λ i es. refl) (λ i es. refl) runs' parts'
       (λ q i is other. (sets_run.others (RunWord q i) is (λ same. ⊎_elim (λ ne. ne (cc same)) (λ ne. ne (cc same)) other), sets_run.others (PartWord q i) is (λ same. absurd (cc same)))))
@@ -306,7 +257,7 @@ module _ {H : Type 0} (reply_of : List ℕ → Request → Reply) (shape : Shape
       (λ r i lt other holds_it. (holds_it, said_else reply_of shape s holds id v at queue may.there.in_queues last_part item x e (λ j es. refl) r i other))
       (λ y told. sym (said_here reply_of shape s holds id v at queue may.there.in_queues last_part item x e (λ j es. refl) y told)) holds.notes.parts in
       made reply_of shape s holds id v at queue item may place x may.there refl off_rings e (λ i es. refl) (λ i es. refl)
-      (SetPart v.seat queue item x) tt link (part_lists core v.seat queue item x) (part_owner core v.seat queue item x) (part_opened core v.seat queue item x) (record (item_of core queue item) { part = x })
+      (SetPart v.seat queue item x) tt link (part_leaves core v.seat queue item x) (record (item_of core queue item) { part = x })
       (sets_after_part core v.seat queue item x (inside reply_of shape s holds id v at queue item may)) (record { tag = refl; place = refl; last = refl })
       (notes_of reply_of shape s holds id v at queue item may place x may.there refl off_rings e (λ i es. refl) (λ i es. refl) runs' parts'
       (λ q i is other. (sets_part.others (RunWord q i) is (λ same. absurd (cc same)), sets_part.others (PartWord q i) is (λ same. ⊎_elim (λ ne. ne (cc same)) (λ ne. ne (cc same)) other))))

@@ -51,7 +51,7 @@ use Rattle.unit_model.specs.Weights.{one_if}
 use Rattle.unit_model.specs.declared.machine.Part.{Part}
 use Rattle.unit_model.proofs.Views.{sum_set}
 use Rattle.unit_model.proofs.Weights.{is_number_other, is_number_some, weigh_push}
-use Rattle.fabric_rule.specs.Parts.{AwaitsReply, KnowsTaken, KnowsWork, PostsInWork}
+use Rattle.fabric_rule.specs.Parts.{KnowsTaken, KnowsWork, PostsInWork}
 use Rattle.fabric_rule.specs.Steps.{with_note as main_note}
 use Rattle.fabric_rule.specs.Views.{draw_at, take_at}
 use Rattle.fabric_rule.specs.declared.view.ArmNote.{ArmNote}
@@ -61,7 +61,7 @@ use Rattle.fabric_rule.specs.declared.view.Work.{Work}
 use Rattle.fabric_rule.specs.declared.view.Work.TheVariants.{Drawn as DrawnWork, Posted as PostedWork, Taken as TakenWork, Sending, Holding}
 use Rattle.fabric_rule.proofs.Hands.{in_hand}
 use Rattle.fabric_rule.proofs.KeyedSteps.{keyed_none, keyed_step}
-use Rattle.fabric_rule.proofs.Noting.{noted_else, noted_here, work_noted, work_stream}
+use Rattle.fabric_rule.proofs.Noting.{awaited, noted_here, work_noted, work_stream}
 use Rattle.fabric_rule.proofs.SettleSteps.{IsNoted}
 use Rattle.fabric_rule.proofs.SettleSteps as settle
 use Rattle.fabric_rule.proofs.Sums.{each_gives}
@@ -289,16 +289,6 @@ module _ {H : Type 0} (reply_of : List ℕ → Request → Reply) (shape : Shape
 
   -- ---- the rule
 
-  still_open : (engine key : ℕ) → AwaitsReply (seat_of core' engine) key → AwaitsReply (seat_of core engine) key
-  still_open engine key awaits =
-      elim (cases_eq engine v.seat) [
-        | inl is ↦
-            let lists : SeatLists = seat_of core v.seat in
-            let shown : AwaitsReply (noted (Taken stream) lists) key = subst (λ (l : SeatLists). AwaitsReply l key) (ap (seat_of core') is ∙ mine_now) awaits in
-            subst (λ (k : ℕ). AwaitsReply (seat_of core k) key) (sym is) (record { was_posted = shown.was_posted; uncancelled = shown.uncancelled; unabandoned = shown.unabandoned; unreceived = shown.unreceived })
-        | inr away ↦ subst (λ (l : SeatLists). AwaitsReply l key) (noted_else core core' v.seat (Taken stream) notes_one engine away) awaits
-      ]
-
   known : Each (IsPosting core' holds.records) u.records
   known = (
     record { same = sym request.posted; was = omega (arith, posts_once, same_posted.all stream) },
@@ -306,7 +296,7 @@ module _ {H : Type 0} (reply_of : List ℕ → Request → Reply) (shape : Shape
   )
 
   in_work' : PostsInWork core' (set s.views id u)
-  in_work' engine key awaits = omega (arith, holds.views.in_work engine key (still_open engine key awaits), sum_set (draw_at key) s.views id v u at, held_none draw_weight key)
+  in_work' engine key awaits = omega (arith, holds.views.in_work engine key (awaited core core' v.seat note notes_one (λ l. (refl, refl, refl, refl)) engine key awaits), sum_set (draw_at key) s.views id v u at, held_none draw_weight key)
 
   comes : MessageComes reply_of shape s holds id v carried 0 item stream run pieces u
   comes =
@@ -314,7 +304,7 @@ module _ {H : Type 0} (reply_of : List ℕ → Request → Reply) (shape : Shape
       holds.popped holds.armed (λ engine. absurd (omega (arith, engine, role))) (λ k ne. refl)
       (others_in_order holds.popped holds.armed core (Settle v.seat 0 item stream) holds.keeps.sound holds.keeps.order refl (settle.enabled reply_of shape s holds id v carried at 0 item stream run_word there tag some_stream run_word_is may note note_is (λ l. refl)))
       (settle.kept_by_holder reply_of shape s holds id v carried at 0 item stream run_word there tag some_stream run_word_is may note note_is (λ l. refl) c c' first_work more_works u.records ledger mine)
-      works' known in_work'
+      works' known (λ k. omega arith) in_work'
 
   pub takes : RequestComes reply_of shape s holds id v c carried item stream poster run
   takes = record {

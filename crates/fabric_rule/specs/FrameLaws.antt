@@ -15,6 +15,7 @@ use Rattle.unit_model.specs.Limits.{segment_chunks}
 use Rattle.unit_model.specs.Lists.{change_at}
 use Rattle.unit_model.specs.PartCounts.{of_stream}
 use Rattle.unit_model.specs.PartOrder.{Each}
+use Rattle.unit_model.specs.StreamCounts.{by_all, posted}
 use Rattle.unit_model.specs.Weights.{weigh, times}
 use Rattle.unit_model.specs.declared.machine.Core.{Core}
 use Rattle.unit_model.specs.declared.machine.Note.{Note}
@@ -24,8 +25,8 @@ use Rattle.unit_types.specs.declared.message.Reply.{Reply}
 use Rattle.unit_types.specs.declared.message.Request.{Request}
 use Rattle.fabric_words.specs.Places.{HasItem, queues_of, segments_of}
 use Rattle.fabric_rule.specs.Contents.{ArmedFilled}
-use Rattle.fabric_rule.specs.Parts.{OfEach, ItemsHeld, ChunksHeld, IsOfFabric, PostsArmed, StreamsLatest, RecordsKnown, KeptAreWorn, ListsShown, ListsThere, WorksShown, WorksCounted, PostsInWork, hand_weight, has_last, owner_weight}
-use Rattle.fabric_rule.specs.Views.{hand_at, chunks_at, lists_at, opens_at, works_at}
+use Rattle.fabric_rule.specs.Parts.{OfEach, ItemsHeld, ChunksHeld, IsOfFabric, PostsArmed, StreamsLatest, RecordsKnown, RecordsThere, KeptAreWorn, ListsShown, ListsThere, WorksShown, WorksCounted, PostsInWork, hand_weight, has_last, owner_weight}
+use Rattle.fabric_rule.specs.Views.{hand_at, chunks_at, lists_at, opens_at, records_at, works_at}
 use Rattle.fabric_rule.specs.declared.view.ArmNote.{ArmNote}
 use Rattle.fabric_rule.specs.declared.view.Ledger.{Ledger}
 use Rattle.fabric_rule.specs.declared.view.FabricView.{FabricView}
@@ -97,9 +98,13 @@ pub record SameLists (core core' : Core) : Type 0 where
   pub shape : core'.shape ≡ core.shape
   pub seats : core'.seats ≡ core.seats
 
+-- the same streams are posted
+abbrev pub SamePosts : Core → Core → Type 0
+SamePosts core core' = (stream : ℕ) → by_all posted core' stream ≡ by_all posted core stream
+
 abbrev pub PostsStayLaw : Type 0
 PostsStayLaw = (core core' : Core) (views : List FabricView) (id : ℕ) (v u : FabricView)
-    → get_elem? views id ≡ some v → SameLists core core' → u.arms ≡ v.arms
+    → get_elem? views id ≡ some v → SamePosts core core' → u.arms ≡ v.arms
     → PostsArmed core views
     → PostsArmed core' (set views id u)
 
@@ -113,9 +118,18 @@ StreamsStayLaw = (core core' : Core) (views : List FabricView) (id : ℕ) (v u :
 
 abbrev pub RecordsStayLaw : Type 0
 RecordsStayLaw = (core core' : Core) (records : ℕ → List ℕ) (v u : FabricView)
-    → SameLists core core' → u.records ≡ v.records
+    → SamePosts core core' → u.records ≡ v.records
     → RecordsKnown core records v
     → RecordsKnown core' records u
+
+-- a stream that is posted was, or the seat has its record; and the seat has all that it had
+abbrev pub RecordsThereLaw : Type 0
+RecordsThereLaw = (core core' : Core) (views : List FabricView) (id : ℕ) (v u : FabricView)
+    → get_elem? views id ≡ some v
+    → ((stream : ℕ) → by_all posted core' stream ≤ by_all posted core stream + records_at stream u)
+    → ((stream : ℕ) → records_at stream v ≤ records_at stream u)
+    → RecordsThere core views
+    → RecordsThere core' (set views id u)
 
 abbrev pub ListsStayLaw : Type 0
 ListsStayLaw = (core core' : Core) (popped : ℕ → List ℕ) (views : List FabricView) (id : ℕ) (v u : FabricView)

@@ -26,7 +26,7 @@ use Rattle.unit_model.specs.declared.machine.Whereabouts.TheVariants.{InFreeList
 use Rattle.unit_model.specs.declared.shape.Shape.{Shape}
 use Rattle.fabric_words.specs.Places.{HasItem, queues_of, segments_of}
 use Rattle.fabric_rule.specs.Keyed.{Keyed}
-use Rattle.fabric_rule.specs.Views.{hand_at, chunks_at, held_at, last_stream, open_noted, posts_at, posts_of, lists_at, opens_at, works_at, draw_at, draw_weight, take_at, take_weight, popped_at}
+use Rattle.fabric_rule.specs.Views.{hand_at, chunks_at, held_at, last_stream, open_noted, posts_at, posts_of, lists_at, opens_at, records_at, works_at, draw_at, draw_weight, take_at, take_weight, popped_at}
 use Rattle.fabric_rule.specs.declared.cause.Cause.{Cause}
 use Rattle.fabric_rule.specs.declared.cause.Cause.TheVariants.{NoChunks, NoItem, Worn}
 use Rattle.fabric_rule.specs.declared.cause.Refusal.{Refusal}
@@ -99,6 +99,11 @@ pub record IsPosting (core : Core) (records : ℕ → List ℕ) (p : Posting) : 
 
 abbrev pub RecordsKnown : Core → (ℕ → List ℕ) → FabricView → Type 0
 RecordsKnown core records v = Each (IsPosting core records) v.records
+
+-- and of each posted stream some view has the record
+abbrev pub RecordsThere : Core → List FabricView → Type 0
+RecordsThere core views =
+    (stream : ℕ) → 1 ≤ by_all posted core stream → 1 ≤ weigh (records_at stream) views
 
 -- An item is kept only where the tail of the free ring that it should go to, that of its own queue, has come to 2^62. It has no
 -- tag, so it holds no chunks.

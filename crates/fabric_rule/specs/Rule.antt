@@ -19,7 +19,7 @@ use Rattle.fabric_words.specs.Shown.{Shows}
 use Rattle.fabric_words.specs.declared.place.Place.{Place}
 use Rattle.carried_slots.specs.FreeSlots.{FreeSlots}
 use Rattle.fabric_rule.specs.Contents.{ArmedFilled}
-use Rattle.fabric_rule.specs.Parts.{OfEach, ItemsHeld, ChunksHeld, IsOfFabric, OpensNoted, PostsArmed, StreamsLatest, RecordsKnown, KeptAreWorn, ListsShown, ListsThere, WorksShown, WorksCounted, IsIdle, PostsInWork}
+use Rattle.fabric_rule.specs.Parts.{OfEach, ItemsHeld, ChunksHeld, IsOfFabric, OpensNoted, PostsArmed, StreamsLatest, RecordsKnown, RecordsThere, KeptAreWorn, ListsShown, ListsThere, WorksShown, WorksCounted, IsIdle, PostsInWork}
 use Rattle.fabric_rule.specs.Views.{queues_in, ring_in, tag_in, run_in, part_in, log_at, held_at, got_at, arms_at, words_in, tag_said, tag_kept, run_said, part_said}
 use Rattle.fabric_rule.specs.declared.view.FabricView.{FabricView}
 
@@ -54,6 +54,7 @@ pub record ViewsShow (shape : Shape) (word : Place → ℕ) (popped armed record
   pub posts : PostsArmed core views
   pub streams : StreamsLatest core views
   pub records_known : OfEach (RecordsKnown core records) views
+  pub records_there : RecordsThere core views
   pub lists : ListsShown core popped views
   pub lists_there : ListsThere core views
   pub works : WorksShown core armed views

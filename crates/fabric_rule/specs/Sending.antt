@@ -1,6 +1,6 @@
 -- Entries that are put at the ends of rings, and parts of replies that workers send: steps as
 -- statements, and what the calls tell.
-use Rattle.std.specs.Prelude.{ℕ, ◌+◌, ◌*◌, ◌/◌, ◌^◌, ◌≡◌, ◌≢◌, ◌≤◌, ◌<◌, [], ◌∷◌, if◌then◌else◌, List, Option, length}
+use Rattle.std.specs.Prelude.{ℕ, ◌+◌, ◌*◌, ◌/◌, ◌^◌, ◌≡◌, ◌≢◌, ◌≤◌, ◌<◌, [], ◌∷◌, if◌then◌else◌, List, Option, length, set}
 use mathlib.Core.Option.{some}
 use lib.ListN.{get_elem?}
 use Rattle.atomic_table.specs.Table.{Me, State, Valid, carried_after, keeps, stepped}
@@ -55,12 +55,14 @@ pub record SawVacant (n : ℕ) (log : List RingEvent) (place entry : ℕ) : Type
   pub before : entry / n + 1 ≡ place / n
   pub low : place < 2 ^ 62
 
--- The slot of the place had the entry, and the seat has the view `put` since this step of the
--- machine. Or it had another entry, of the place's cycle or a later one.
-pub record PutsEntry (H : Type 0) (reply_of : List ℕ → Request → Reply) (shape : Shape) (id queue : ℕ) (side : Side) (place entry : ℕ) (step : Step) (put v : FabricView) (found : ℕ) (u : FabricView) : Type 0 where
+-- The slot of the place had the entry, and has the item's since this step of the machine; the seat
+-- has the view `put`. Or it had another entry, of the place's cycle or a later one.
+pub record PutsEntry (H : Type 0) (reply_of : List ℕ → Request → Reply) (shape : Shape) (id queue : ℕ) (side : Side) (item place entry : ℕ) (step : Step) (put v : FabricView) (found : ℕ) (u : FabricView) : Type 0 where
   pub moment : Moment H reply_of shape id v u
   pub was : word_in shape moment.before.words (slot_of shape queue side place) ≡ found
   pub won : found ≡ entry → u ≡ put
+  pub words : found ≡ entry → moment.after.words
+      ≡ set moment.before.words (offset_of shape (slot_of shape queue side place)) (entry_of (items_of shape queue) place item)
   pub made : found ≡ entry
       → IsMachineStep reply_of shape moment.before moment.holds step moment.after
   pub missed : found ≢ entry → u ≡ logged (AtRing queue side (SawEntry place found)) v
@@ -70,12 +72,12 @@ pub record PutsEntry (H : Type 0) (reply_of : List ℕ → Request → Reply) (s
 -- an engine's armed item, into the line of queue 0
 abbrev pub Pushes : (H : Type 0) → (List ℕ → Request → Reply) → Shape → (id item place entry : ℕ) → FabricView → ℕ → FabricView → Type 0
 Pushes H reply_of shape id item place entry v found u =
-    PutsEntry H reply_of shape id 0 Line place entry (Push v.seat 0 item place) (with_put 0 Line item place v) v found u
+    PutsEntry H reply_of shape id 0 Line item place entry (Push v.seat 0 item place) (with_put 0 Line item place v) v found u
 
 -- an item without a tag, into its free ring
 abbrev pub Gives : (H : Type 0) → (List ℕ → Request → Reply) → Shape → (id queue item place entry : ℕ) → FabricView → ℕ → FabricView → Type 0
 Gives H reply_of shape id queue item place entry v found u =
-    PutsEntry H reply_of shape id queue Free place entry (GiveItem v.seat queue item place) (with_put queue Free item place v) v found u
+    PutsEntry H reply_of shape id queue Free item place entry (GiveItem v.seat queue item place) (with_put queue Free item place v) v found u
 
 -- ---- a worker sends a part
 
@@ -184,4 +186,4 @@ PushPartLaw H = (reply_of : List ℕ → Request → Reply) (shape : Shape) (s :
 -- a part that was armed, into the line of its engine's queue
 abbrev pub PushesPart : (H : Type 0) → (List ℕ → Request → Reply) → Shape → ℕ → PartOut → (item place entry : ℕ) → FabricView → ℕ → FabricView → Type 0
 PushesPart H reply_of shape id part item place entry v found u =
-    PutsEntry H reply_of shape id (queue_to part) Line place entry (Push v.seat (queue_to part) item place) (with_part_put part item place v) v found u
+    PutsEntry H reply_of shape id (queue_to part) Line item place entry (Push v.seat (queue_to part) item place) (with_part_put part item place v) v found u

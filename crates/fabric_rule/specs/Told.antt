@@ -1,10 +1,11 @@
 -- What steps of a fabric's table tell: of the view before, the number that was found, and the view after, with the rule right before
 -- the step and right after it.
-use Rattle.std.specs.Prelude.{ℕ, ◌+◌, ◌≡◌, ◌≢◌, ◌<◌, ◌++◌, List, length, Option}
+use Rattle.std.specs.Prelude.{ℕ, ◌+◌, ◌/◌, ◌≡◌, ◌≢◌, ◌<◌, ◌++◌, List, length, Option}
 use mathlib.Core.Option.{some}
 use lib.ListN.{get_elem?}
 use Rattle.atomic_table.specs.Table.{Me, State}
-use Rattle.nncq_ring.specs.declared.view.RingEvent.TheVariants.{SawHead, SawTail}
+use Rattle.nncq_ring.specs.declared.view.RingEvent.{RingEvent}
+use Rattle.nncq_ring.specs.declared.view.RingEvent.TheVariants.{SawEntry, SawHead, SawTail}
 use Rattle.app_queue.specs.declared.side.Side.{Side}
 use Rattle.app_queue.specs.declared.side.Side.TheVariants.{Free, Line}
 use Rattle.app_queue.specs.declared.view.ItemEvent.TheVariants.{Gone}
@@ -63,6 +64,12 @@ pub record Helps (H : Type 0) (reply_of : List ℕ → Request → Reply) (shape
   pub missed : found ≢ place → me'.0 ≡ logged (AtRing queue side (SawTail found)) me.0
   pub later : found ≢ place → place < found
   pub none : IsNoStep reply_of shape moment.before moment.holds moment.after
+
+-- In a ring of size n the seat saw the head at the place, and then this entry in its slot, of the place's cycle.
+pub record SawFirst (n : ℕ) (log : List RingEvent) (place entry : ℕ) : Type 0 where
+  pub saw : get_elem? log 0 ≡ some (SawEntry place entry)
+  pub head : get_elem? log 1 ≡ some (SawHead place)
+  pub full : entry / n ≡ place / n
 
 -- the item was taken at the place that the head of the line was, or the exchange found a later head
 pub record Pops (H : Type 0) (reply_of : List ℕ → Request → Reply) (shape : Shape) (id queue place item : ℕ) (v : FabricView) (found : ℕ) (u : FabricView) : Type 0 where

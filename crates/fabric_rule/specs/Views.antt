@@ -29,6 +29,7 @@ use Rattle.fabric_rule.specs.declared.view.Ledger.{Ledger}
 use Rattle.fabric_rule.specs.declared.view.FabricView.{FabricView}
 use Rattle.fabric_rule.specs.declared.view.HeldItem.{HeldItem}
 use Rattle.fabric_rule.specs.declared.view.KeptItem.{KeptItem}
+use Rattle.fabric_rule.specs.declared.view.Posting.{Posting}
 use Rattle.fabric_rule.specs.declared.view.Work.{Work}
 use Rattle.fabric_rule.specs.declared.view.Work.TheVariants.{Drawn, Posted, Taken, Sending, Holding}
 
@@ -208,6 +209,12 @@ all_arms views = flat_map (λ (v : FabricView). v.arms) views
 -- the stream of an item's latest arm over all views, 0 without one
 abbrev pub last_stream : List FabricView → ℕ → ℕ → ℕ
 last_stream views queue item = stream_of_arm (latest_arm queue item (all_arms views))
+
+-- ---- records
+
+-- how many records of the stream the view has
+abbrev pub records_at : ℕ → FabricView → ℕ
+records_at stream v = weigh (λ (p : Posting). is_number stream p.stream) v.records
 
 -- ---- lists and works
 

@@ -1,6 +1,6 @@
 //! What steps do to the parts of the rule. Each function does nothing: its contract is the law.
-ghost use Rattle.fabric_rule.specs.Consequences.{AloneLaw, ArmedBackLaw, ArmedOnceLaw, ClosedGoneLaw, CoreIsLaw, RingsDistinctLaw};
-ghost use Rattle.fabric_rule.specs.FrameLaws.{StreamsArmLaw, ChunksMoveLaw, ChunksStayLaw, CountedStayLaw, InWorkStayLaw, ItemMovesLaw, ItemsStayLaw, KeptStayLaw, ListsNotedLaw, ListsStayLaw, ListsThereLaw, NotedSameLaw, PostsStayLaw, RecordsStayLaw, StreamsStayLaw, WorksStayLaw, FilledStayLaw, OfEachLaw, OfFabricStayLaw};
+ghost use Rattle.fabric_rule.specs.Consequences.{AloneLaw, ArmedBackLaw, ArmedOnceLaw, ArmedRecordLaw, ClosedGoneLaw, CoreIsLaw, OneRecordLaw, PostedRecordLaw, RingsDistinctLaw};
+ghost use Rattle.fabric_rule.specs.FrameLaws.{StreamsArmLaw, ChunksMoveLaw, ChunksStayLaw, CountedStayLaw, InWorkStayLaw, ItemMovesLaw, ItemsStayLaw, KeptStayLaw, ListsNotedLaw, ListsStayLaw, ListsThereLaw, NotedSameLaw, PostsStayLaw, RecordsStayLaw, RecordsThereLaw, StreamsStayLaw, WorksStayLaw, FilledStayLaw, OfEachLaw, OfFabricStayLaw};
 ghost use Rattle.std.specs.Prelude.{ℕ, List};
 ghost use Rattle.fabric_rule.specs.Hands.{ChunkInHandLaw, HandsOwnedLaw, InHandLaw};
 ghost use Rattle.fabric_rule.specs.Looks.{LoadLaw};
@@ -34,6 +34,7 @@ pub fn lists_and_works_stay()
     ensures posts { PostsStayLaw }
     ensures streams { StreamsStayLaw }
     ensures records { RecordsStayLaw }
+    ensures records_there { RecordsThereLaw }
     ensures lists { ListsStayLaw }
     ensures there { ListsThereLaw }
     ensures works { WorksStayLaw }
@@ -124,6 +125,13 @@ pub fn rings_have_each_item_once<H: Handlers>()
 /// The core that the rule shows is computed from words and views.
 pub fn the_core_is_that_of_words_and_views<H: Handlers>()
     ensures { CoreIsLaw H }
+{}
+
+/// Of each posted stream a view has the record, all views the same one, and an armed line item has it in its run's slots.
+pub fn each_stream_has_one_record<H: Handlers>()
+    ensures posted { PostedRecordLaw H }
+    ensures one { OneRecordLaw H }
+    ensures armed { ArmedRecordLaw H }
 {}
 
 /// An armed item of a back queue is armed by a worker and not pushed, in the line, or popped by the

@@ -87,7 +87,7 @@ impl<H: Handlers> FabricTable<H> {
     ghost use Rattle.atomic_table.specs.Table.{Allows};
     ghost use Rattle.app_queue.specs.declared.side.Side.TheVariants.{Free, Line};
     ghost use Rattle.nncq_ring.specs.declared.view.RingEvent.{RingEvent};
-    ghost use Rattle.nncq_ring.specs.declared.view.RingEvent.TheVariants.{SawEntry, SawHead, SawTail};
+    ghost use Rattle.nncq_ring.specs.declared.view.RingEvent.TheVariants.{SawEntry, SawHead};
     ghost use Rattle.unit_model.specs.Shapes.{role_in};
     ghost use Rattle.unit_model.specs.Holding.{FitsQueue, items_of};
     ghost use Rattle.unit_model.specs.Sharing.{Holds};
@@ -97,7 +97,7 @@ impl<H: Handlers> FabricTable<H> {
     ghost use Rattle.fabric_rule.specs.Opening.{ledger_of};
     ghost use Rattle.fabric_rule.specs.Rule.{FabricHolds};
     ghost use Rattle.fabric_rule.specs.Steps.{HasLists, IsEndAbove, IsMain};
-    ghost use Rattle.fabric_rule.specs.Told.{CarriesRequest, Gets, Helps, Pops, Posts, Takes};
+    ghost use Rattle.fabric_rule.specs.Told.{CarriesRequest, Gets, Helps, Pops, Posts, SawFirst, Takes};
     ghost use Rattle.fabric_rule.specs.Views.{emptied_by, got_at, held_at, log_at, part_said, run_said, word_side};
     ghost use Rattle.fabric_rule.specs.declared.view.Work.TheVariants.{Drawn, Holding};
 
@@ -225,11 +225,8 @@ impl<H: Handlers> FabricTable<H> {
         requires role { role_in self.now.table.shared.key seat.old.seat.me.0.seat ≤ 1 }
         requires empties { queue ≡ emptied_by self.now.table.shared.key seat.old.seat.me.0.seat }
         requires low { place < 2 ^ 63 }
-        requires saw { get_elem? (log_at queue Line seat.old.seat.me.0) 0
-            ≡ some (SawEntry place entry) }
-        requires head { get_elem? (log_at queue Line seat.old.seat.me.0) 1 ≡ some (SawHead place) }
-        requires full { entry / items_of self.now.table.shared.key queue
-            ≡ place / items_of self.now.table.shared.key queue }
+        requires saw { SawFirst (items_of self.now.table.shared.key queue)
+            (log_at queue Line seat.old.seat.me.0) place entry }
         ensures own { (seat.new.seat.table_id ≡ seat.old.seat.table_id)
             × (seat.new.seat.id ≡ seat.old.seat.id) }
         ensures slots { seat.new.seat.me.1 ≡ seat.old.seat.me.1 }
@@ -260,11 +257,8 @@ impl<H: Handlers> FabricTable<H> {
         requires fills { (role_in self.now.table.shared.key seat.old.seat.me.0.seat == 0)
             ≡ (queue == 0) }
         requires low { place < 2 ^ 63 }
-        requires saw { get_elem? (log_at queue Free seat.old.seat.me.0) 0
-            ≡ some (SawEntry place entry) }
-        requires head { get_elem? (log_at queue Free seat.old.seat.me.0) 1 ≡ some (SawHead place) }
-        requires full { entry / items_of self.now.table.shared.key queue
-            ≡ place / items_of self.now.table.shared.key queue }
+        requires saw { SawFirst (items_of self.now.table.shared.key queue)
+            (log_at queue Free seat.old.seat.me.0) place entry }
         ensures own { (seat.new.seat.table_id ≡ seat.old.seat.table_id)
             × (seat.new.seat.id ≡ seat.old.seat.id) }
         ensures slots { seat.new.seat.me.1 ≡ seat.old.seat.me.1 }
@@ -279,7 +273,7 @@ impl<H: Handlers> FabricTable<H> {
     /// Moves the tail of a ring on, where it is still `place`: one exchange of `word`, which stands where that tail does. The tail as
     /// it was.
     ///
-    /// The seat saw the tail at this place, and pushed at it or saw it filled.
+    /// The seat pushed at this place, or saw it filled.
     pub fn help(
         &self,
         seat: &mut FabricSeat<H>,
@@ -292,8 +286,6 @@ impl<H: Handlers> FabricTable<H> {
         requires word { word ≡ offset_of self.now.table.shared.key (Tail queue (word_side side)) }
         requires there { queue < queues_of self.now.table.shared.key }
         requires low { place < 2 ^ 63 }
-        requires saw { (at : ℕ) × (get_elem? (log_at queue side seat.old.seat.me.0) at
-            ≡ some (SawTail place)) }
         requires above { (at : ℕ) × (e : RingEvent)
             × (get_elem? (log_at queue side seat.old.seat.me.0) at ≡ some e)
             × IsEndAbove (items_of self.now.table.shared.key queue) place e }

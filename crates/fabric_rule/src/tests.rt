@@ -1,11 +1,15 @@
 ghost use Rattle.std.specs.Prelude.{◌≡◌, ◌≤◌, [], IfSome};
 ghost use Rattle.fabric_rule.specs.Looks.{place_of};
 ghost use Rattle.fabric_rule.specs.Seats.{fresh_main, without_works, works_of};
-ghost use Rattle.fabric_rule.specs.TestViews.{one_drawn};
+ghost use Rattle.fabric_rule.specs.TestViews.{one_drawn, plain_shape};
 ghost use Rattle.fabric_rule.specs.declared.look.Look.TheVariants.{Entry, Head, Map, Tail};
 ghost use Rattle.fabric_rule.specs.Views.{word_side};
 
 mod chunks;
+mod request;
+mod stale;
+mod taking;
+mod turns;
 
 use super::*;
 use app_queue::Side;
@@ -19,7 +23,7 @@ use unit_types::{Bytes, Fields, Handlers, Reply, Request};
 struct NoHandlers;
 
 impl Handlers for NoHandlers {
-    ghost use Rattle.fabric_rule.specs.NoReplies.{no_names, no_reply, no_reply_fits};
+    ghost use Rattle.segment_table.specs.NoReplies.{no_names, no_reply, no_reply_fits};
 
     ghost reply_of = { λ name request. no_reply };
 
@@ -46,7 +50,9 @@ type Fabric = FabricTable<NoHandlers>;
 
 type Seat = FabricSeat<NoHandlers>;
 
-fn plain() -> Shape {
+fn plain() -> Shape
+    ensures { result ≡ plain_shape }
+{
     Shape {
         items: 8,
         back_items: 8,

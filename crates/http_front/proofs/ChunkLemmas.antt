@@ -1,9 +1,9 @@
 -- The chunks one by one.
-use Rattle.std.proofs.Common.{ℕ, ◌≡◌, ◌+◌, ◌-◌, ◌≤◌, zero, suc, refl, sym, ap, ◌∙◌, List, [], ◌∷◌, ◌++◌, length, take, drop, arith, subst, append_assoc, append-nil, drop-drop, length-drop}
+use Rattle.std.proofs.Common.{ℕ, ◌≡◌, ◌+◌, ◌-◌, ◌≤◌, zero, suc, refl, sym, ap, ◌∙◌, List, [], ◌∷◌, ◌++◌, length, take, drop, arith, subst, append_assoc, length-drop}
 use Rattle.http_front.specs.declared.content.Content.{Content}
 use Rattle.http_front.specs.declared.chunk.Chunk.{Chunk}
 use Rattle.http_front.specs.declared.chunk.Chunk.TheVariants.{Data, Last, Refused, Open}
-use Rattle.http_front.specs.Chunks.{line_front, first_chunk, content_behind, chunk_len, chunk_content, chunks_in, chunked_content}
+use Rattle.http_front.specs.Chunks.{line_front, first_chunk, content_behind, chunk_len, chunk_content, chunks_in}
 use Rattle.http_front.proofs.ContentStays.{FitsChunk, chunk_fits}
 
 pub behind_nothing : (c : Content) → c ≡ content_behind [] 0 c
@@ -52,42 +52,5 @@ chunks_step zero room [] c few is = let none = sym is ∙ no_chunk room in rw no
 chunks_step zero room (x ∷ bytes) c few is = absurd (omega arith)
 chunks_step (suc steps) room bytes c few is = let less : suc steps - 1 ≡ steps = omega arith in rw (is, less) refl
 
--- ---- the chunks of a content so far
-
-abbrev pub IsPassed : ℕ → List ℕ → List ℕ → ℕ → ℕ → Type 0
-IsPassed limit bytes body at room = chunked_content limit bytes ≡ content_behind body at (chunks_in (length bytes - at) room (drop at bytes))
-
--- the content by the next chunk
-passed_chunk : (limit : ℕ) (bytes body : List ℕ) (at room : ℕ) (c : Chunk) → IsPassed limit bytes body at room → first_chunk room (drop at bytes) ≡ c
-    → chunked_content limit bytes ≡ content_behind body at (chunk_content (drop at bytes) (λ size rest. chunks_in (length bytes - at - 1) (room - size) rest) c)
-passed_chunk limit bytes body at room c passed is =
-    passed ∙ ap (content_behind body at) (chunks_step (length bytes - at) room (drop at bytes) c (length-drop at bytes) is)
-
-pub passed_last : (limit : ℕ) (bytes body : List ℕ) (at room n : ℕ) → IsPassed limit bytes body at room → first_chunk room (drop at bytes) ≡ Last n
-    → Content.Whole body (at + n) ≡ chunked_content limit bytes
-passed_last limit bytes body at room n passed is =
-    sym (passed_chunk limit bytes body at room (Last n) passed is ∙ ap (λ text. Content.Whole text (at + n)) (append-nil body))
-
-pub passed_refused : (limit : ℕ) (bytes body : List ℕ) (at room status : ℕ) → IsPassed limit bytes body at room → first_chunk room (drop at bytes) ≡ Refused status
-    → Content.Refused status ≡ chunked_content limit bytes
-passed_refused limit bytes body at room status passed is = sym (passed_chunk limit bytes body at room (Refused status) passed is)
-
-pub passed_open : (limit : ℕ) (bytes body : List ℕ) (at room : ℕ) → IsPassed limit bytes body at room → first_chunk room (drop at bytes) ≡ Open
-    → Content.Open ≡ chunked_content limit bytes
-passed_open limit bytes body at room passed is = sym (passed_chunk limit bytes body at room Open passed is)
-
 pub chunk_fits_as : (room : ℕ) (bytes : List ℕ) (c : Chunk) → first_chunk room bytes ≡ c → FitsChunk room (length bytes) c
 chunk_fits_as room bytes c is = subst (λ (k : Chunk). FitsChunk room (length bytes) k) is (chunk_fits room bytes)
-
-pub passed_data : (limit : ℕ) (bytes body : List ℕ) (at room line size : ℕ) → IsPassed limit bytes body at room → first_chunk room (drop at bytes) ≡ Data line size
-    → IsPassed limit bytes (body ++ take size (drop line (drop at bytes))) (at + chunk_len line size) (room - size)
-passed_data limit bytes body at room line size passed is =
-    let fits = chunk_fits_as room (drop at bytes) (Data line size) is in
-    let rest = drop (chunk_len line size) (drop at bytes) in
-    let few : length rest ≤ length bytes - at - 1 = omega (arith, length-drop (chunk_len line size) (drop at bytes), length-drop at bytes) in
-    let same : length rest ≤ length bytes - (at + chunk_len line size) = omega (arith, length-drop (chunk_len line size) (drop at bytes), length-drop at bytes) in
-    passed_chunk limit bytes body at room (Data line size) passed is
-    ∙ behind_both body (take size (drop line (drop at bytes))) at (chunk_len line size) (chunks_in (length bytes - at - 1) (room - size) rest)
-    ∙ ap (content_behind (body ++ take size (drop line (drop at bytes))) (at + chunk_len line size))
-    (steps_enough (length bytes - at - 1) (length bytes - (at + chunk_len line size)) (room - size) rest few same
-    ∙ ap (chunks_in (length bytes - (at + chunk_len line size)) (room - size)) (drop-drop (chunk_len line size) at bytes))

@@ -6,6 +6,8 @@ use Rattle.std.proofs.lemmas.Bool.{leb-true, le-leb}
 use Rattle.std.proofs.lemmas.Bool.Decides.{nat_tests}
 use Rattle.unit_types.specs.declared.field.Field.{Field}
 use Rattle.http_front.specs.declared.content.Content.{Content}
+use Rattle.http_front.specs.declared.framing.Framing.{Framing}
+use Rattle.http_front.specs.declared.framing.Framing.TheVariants.{Length, Chunks}
 use Rattle.http_front.specs.declared.chunk.Chunk.{Chunk}
 use Rattle.http_front.specs.declared.chunk.Chunk.TheVariants.{Data, Last, Refused, Open}
 use Rattle.http_front.specs.Front.{Front, unready, too_long, block, front_of, is_ready}
@@ -13,7 +15,7 @@ use Rattle.unit_types.specs.Limits.{head_limit}
 use Rattle.http_front.specs.Framing.{is_chunked, content_length}
 use Rattle.http_front.specs.ChunkLine.{chunk_size_of}
 use Rattle.http_front.specs.Chunks.{line_feed_chunk, return_chunk, data_chunk, last_chunk, sized_chunk, line_chunk, front_chunk, line_front, first_chunk, content_behind, chunk_len, chunk_content, chunks_in, chunked_content}
-use Rattle.http_front.specs.Content.{sized_content, content_of}
+use Rattle.http_front.specs.Content.{sized_content, content_by, content_of}
 use Rattle.http_front.proofs.FrontStays.{front_stays, front_fits, line_stays, line_fits}
 
 -- a status that refuses (RFC 9110, sections 15.5 and 15.6)
@@ -119,6 +121,10 @@ sized_content_fits n bytes = by_test (nat_le n (length bytes)) refl
     by_test : (t : Bool) → nat_le n (length bytes) ≡ t → FitsContent (length bytes) (if t then Content.Whole (take n bytes) n else Content.Open)
     by_test true is = leb-true n (length bytes) is
     by_test false is = tt
+
+pub framed_fits : (framing : Framing) (bytes : List ℕ) → FitsContent (length bytes) (content_by framing bytes)
+framed_fits (Length n) bytes = sized_content_fits n bytes
+framed_fits (Chunks room) bytes = chunks_fit (length bytes) room bytes
 
 pub content_fits : (limit : ℕ) (fields : List Field) (bytes : List ℕ) → FitsContent (length bytes) (content_of limit fields bytes)
 unfolding content_of

@@ -4,6 +4,7 @@ use Rattle.std.proofs.lemmas.List.{take-append-le}
 use Rattle.std.specs.Result.{is_ok}
 use Rattle.unit_types.specs.declared.message.Addr.{Addr}
 use Rattle.http_front.specs.declared.next_unit.Next.TheVariants as Answer
+use Rattle.http_front.specs.declared.arriving.Arriving.{Arriving}
 use Rattle.http_front.specs.declared.reader.Place.{Place}
 use Rattle.http_front.specs.declared.search.Search.{Search}
 use Rattle.http_front.specs.Front.{head_begun}
@@ -11,6 +12,7 @@ use Rattle.http_front.specs.NextUnit.{Found, request, bad, cut, finished, wait, 
 use Rattle.http_front.specs.Progress.{IsSearched}
 use Rattle.http_front.specs.Reading.{Reading, reading_of, limit_or, kept_limit, answer_at, behind_found, next_answer, next_reading}
 use Rattle.http_front.specs.Stands.{found_past, unit_past, Stands, head_unit}
+use Rattle.http_front.specs.Inside.{mark_of}
 use Rattle.http_front.specs.Kept.{head, Kept, Mark, marked, unit_at, begun_at, Counts, HasRead, fed, at_end, unit_of, asks_of, kept_answer, kept_behind, limited, kept_next}
 use Rattle.http_front.proofs.BlankLemmas.{begun_past, blank_gone}
 use Rattle.http_front.proofs.StandsLemmas.{stands_whole, stands_fed, stands_blank, stands_now, stands_left}
@@ -205,16 +207,12 @@ found_ended k cut = refl
 found_ended k finished = refl
 found_ended k wait = refl
 
-next_ended : (k : Kept) (limit : ℕ) → (kept_next k limit).ended ≡ k.ended
+pub next_ended : (k : Kept) (limit : ℕ) → (kept_next k limit).ended ≡ k.ended
 next_ended k limit = by_asks (asks_of k limit)
   where
     by_asks : (t : Bool) → (if t then record (limited k limit) { is_told = true } else kept_behind (limited k limit) (unit_of k limit).found).ended ≡ k.ended
     by_asks true = refl
     by_asks false = found_ended (limited k limit) (unit_of k limit).found
-
-pub step_ended : {A E : Type 0} (o : Result A E) (old new : Kept) (limit : ℕ) → OnOk o (new ≡ kept_next old limit) → OnErr o (new ≡ old) → new.ended ≡ old.ended
-step_ended (Ok v) old new limit ok err = ap (λ (k : Kept). k.ended) ok ∙ next_ended old limit
-step_ended (Err e) old new limit ok err = ap (λ (k : Kept). k.ended) err
 
 -- a step leaves where it was marked
 found_marked : (k : Kept) (f : Found) → marked (kept_behind k f) ≡ marked k
@@ -224,25 +222,12 @@ found_marked k cut = refl
 found_marked k finished = refl
 found_marked k wait = refl
 
-next_marked : (k : Kept) (limit : ℕ) → marked (kept_next k limit) ≡ marked k
+pub next_marked : (k : Kept) (limit : ℕ) → marked (kept_next k limit) ≡ marked k
 next_marked k limit = by_asks (asks_of k limit)
   where
     by_asks : (t : Bool) → marked (if t then record (limited k limit) { is_told = true } else kept_behind (limited k limit) (unit_of k limit).found) ≡ marked k
     by_asks true = refl
     by_asks false = found_marked (limited k limit) (unit_of k limit).found
-
-pub step_marked : {A E : Type 0} (o : Result A E) (old new : Kept) (limit : ℕ) → OnOk o (new ≡ kept_next old limit) → OnErr o (new ≡ old) → marked new ≡ marked old
-step_marked (Ok v) old new limit ok err = ap marked ok ∙ next_marked old limit
-step_marked (Err e) old new limit ok err = ap marked err
-
--- where a reader with these bytes is marked
-abbrev pub mark_at : List ℕ → Place → Mark
-mark_at bytes place = record {
-  bytes = drop place.used (take place.len bytes);
-  ended = place.ended;
-  limit = place.limit;
-  is_told = place.is_told;
-}
 
 -- another mark
 pub remarked : (r : Reading) (k : Kept) (mark : Mark) → HasRead r k → HasRead r (record k { mark = mark })
@@ -265,13 +250,10 @@ mark_fed : (is_fed : Bool) (items piece : List ℕ) (n : ℕ) → n ≤ length i
 mark_fed true items piece n within = take-append-le n items piece within
 mark_fed false items piece n within = refl
 
-pub marked_fed : (is_fed : Bool) (items piece : List ℕ) (place : Place) → place.len ≤ length items
-    → (from to : Addr) (bytes : List ℕ) (ended : Bool) (limit : Option ℕ) (is_told : Bool)
-    → marked (head_kept (mark_at (if is_fed then items ++ piece else items) place) from to bytes ended limit is_told)
-    ≡ marked (head_kept (mark_at items place) from to bytes ended limit is_told)
-marked_fed is_fed items piece place within from to bytes ended limit is_told =
-    ap (λ (front : List ℕ). marked (head_kept (record { bytes = drop place.used front; ended = place.ended; limit = place.limit; is_told = place.is_told }) from to bytes ended limit is_told))
-    (mark_fed is_fed items piece place.len within)
+pub marked_fed : (is_fed : Bool) (items piece : List ℕ) (arriving : Option Arriving) (place : Place) → place.len ≤ length items → (k : Kept)
+    → marked (record k { mark = mark_of (if is_fed then items ++ piece else items) arriving place }) ≡ marked (record k { mark = mark_of items arriving place })
+marked_fed is_fed items piece arriving place within k =
+    ap (λ (front : List ℕ). marked (record k { mark = record (mark_of items arriving place) { bytes = drop place.used front } })) (mark_fed is_fed items piece place.len within)
 
 -- where it was marked is forgotten
 pub forgotten : (r : Reading) (old new : Kept) → new ≡ record old { mark = new.mark } → HasRead r old → HasRead r new

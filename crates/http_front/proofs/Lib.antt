@@ -1,11 +1,11 @@
 pub mod AnswerLemmas
+mod ArrivingLemmas
 mod BlankLemmas
 mod BlockLemmas
 mod BoundLemmas
 mod ChunkLemmas
 mod ChunkLineLemmas
 mod ClosingLemmas
-mod ContentLemmas
 mod ContentStays
 mod CutLemmas
 mod Cuts
@@ -22,6 +22,7 @@ mod ReaderLemmas
 mod RequestLemmas
 pub mod SessionLemmas
 mod SearchLemmas
+mod StageLemmas
 mod StandsLemmas
 mod StayLemmas
 mod UnitLemmas

@@ -17,7 +17,7 @@ use Rattle.unit_types.specs.declared.message.Addr.{Addr}
 use Rattle.http_front.specs.declared.next_unit.Told.{Told}
 use Rattle.http_front.specs.declared.next_unit.Next.TheVariants as Answer
 use Rattle.http_front.specs.Reading.{answer_at, is_request, used_by, kept_limit}
-use Rattle.http_front.specs.Kept.{Kept, Mark, begun_at, unit_of, asks_of, kept_behind, limited, kept_next, told_in}
+use Rattle.http_front.specs.Kept.{Kept, begun_at, unit_of, asks_of, kept_behind, limited, kept_next, told_in}
 use Rattle.http_front.proofs.KeptLemmas.{head_kept}
 use Rattle.http_front.proofs.BlockLemmas.{blank_within}
 use Rattle.http_front.proofs.FrontStays.{front_some, front_fits}
@@ -125,20 +125,19 @@ step_continue k limit told is asks =
 not_asks : (k : Kept) (limit : ℕ) (told : Told) → told ≡ told_in k limit → (told.is_due && not k.is_told) ≡ false → asks_of k limit ≡ false
 not_asks k limit told is asks = ap (λ (t : Told). t.is_due && not k.is_told) (sym is) ∙ asks
 
-pub step_request : (mark : Mark) (from to : Addr) (items : List ℕ) (used : ℕ) (ended : Bool) (kept : Option ℕ) (is_told : Bool) (limit : ℕ) (told : Told)
-    → told ≡ told_in (head_kept mark from to (drop used items) ended kept is_told) limit → (told.is_due && not is_told) ≡ false → is_request told.answer ≡ true
-    → head_kept mark from to (drop (used + told.used) items) ended None false ≡ kept_next (head_kept mark from to (drop used items) ended kept is_told) limit
-step_request mark from to items used ended kept is_told limit told is asks serves =
-    let k = head_kept mark from to (drop used items) ended kept is_told in
+pub step_request : (k : Kept) (items : List ℕ) (used limit : ℕ) (told : Told) → k.bytes ≡ drop used items
+    → told ≡ told_in k limit → (told.is_due && not k.is_told) ≡ false → is_request told.answer ≡ true
+    → head_kept k.mark k.from k.to (drop (used + told.used) items) k.ended None false ≡ kept_next k limit
+step_request k items used limit told left is asks serves =
     let idle : asks_of k limit ≡ false = not_asks k limit told is asks in
     let uses : told.used ≡ used_by (unit_of k limit).found = ap (λ (t : Told). t.used) is in
-    let served : is_request (answer_at from to (unit_of k limit).found) ≡ true = ap (λ (t : Told). is_request t.answer) (sym is) ∙ serves in
+    let served : is_request (answer_at k.from k.to (unit_of k limit).found) ≡ true = ap (λ (t : Told). is_request t.answer) (sym is) ∙ serves in
     rw (idle, uses) (by_found (unit_of k limit).found served)
   where
-    by_found : (g : Found) → is_request (answer_at from to g) ≡ true
-        → head_kept mark from to (drop (used + used_by g) items) ended None false
-        ≡ kept_behind (limited (head_kept mark from to (drop used items) ended kept is_told) limit) g
-    by_found (request m n) asks = ap (λ bytes. head_kept mark from to bytes ended None false) (sym (drop-drop n used items))
+    by_found : (g : Found) → is_request (answer_at k.from k.to g) ≡ true
+        → head_kept k.mark k.from k.to (drop (used + used_by g) items) k.ended None false ≡ kept_behind (limited k limit) g
+    by_found (request m n) asks =
+        ap (λ bytes. head_kept k.mark k.from k.to bytes k.ended None false) (sym (drop-drop n used items) ∙ ap (drop n) (sym left))
     by_found (bad status) asks = cc
     by_found cut asks = cc
     by_found finished asks = cc

@@ -11,8 +11,8 @@ use Rattle.http_front.specs.declared.search.Search.{Search}
 use Rattle.http_front.specs.Head.{is_line_feed, lines_in}
 use Rattle.http_front.specs.Front.{unready, is_empty_line, blank_step, blank_in, block_step, block_in, blank_len, block_len, front_found, front_of, is_ready, head_begun}
 use Rattle.unit_types.specs.Limits.{head_limit}
-use Rattle.http_front.specs.NextUnit.{front_unit, next_unit}
-use Rattle.http_front.specs.Progress.{IsSearched, waiting}
+use Rattle.http_front.specs.NextUnit.{wait, plainly, front_unit, next_unit}
+use Rattle.http_front.specs.Progress.{IsSearched}
 use Rattle.http_front.proofs.Cuts.{Lacks, lacks_append, lines_at, lines_none, place_some, place_inside, place_none}
 use Rattle.http_front.proofs.BlockLemmas.{lines_more, map_twice, blank_passed, blank_within}
 use Rattle.http_front.proofs.FrontStays.{block_more}
@@ -312,7 +312,7 @@ block_nothing r lines = ap block_in lines
 
 -- the head is not complete, and its unit waits
 pub search_waits : (s : Search) (bytes : List ℕ) → IsSearched s bytes → s.searched ≡ length bytes → length bytes < s.blank + 16384
-    → (head_begun bytes ≡ false) × ((limit : ℕ) → next_unit bytes false limit ≡ waiting false)
+    → (head_begun bytes ≡ false) × ((limit : ℕ) → next_unit bytes false limit ≡ plainly wait)
 unfolding next_unit blank_len front_of
 search_waits s bytes is all short =
     let size : length bytes ≡ length is.blank + (length is.lines + (length is.begun + length is.rest)) = ap length is.whole ∙ simp length-append refl in

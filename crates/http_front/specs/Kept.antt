@@ -1,14 +1,21 @@
 -- What a reader keeps, and which readings it stands for.
-use Rattle.std.specs.Prelude.{ℕ, ◌≡◌, Bool, true, false, not, ◌&&◌, List, ◌++◌, drop, Option, Some, None, if◌then◌else◌}
+use Rattle.std.specs.Prelude.{ℕ, ◌≡◌, Bool, true, false, not, ◌&&◌, List, ◌++◌, length, drop, Option, Some, None, if◌then◌else◌}
 use Rattle.std.specs.Bool.{⊤}
 use Rattle.unit_types.specs.declared.message.Addr.{Addr}
 use Rattle.unit_types.specs.declared.message.Request.{Request}
+use Rattle.http_front.specs.declared.arriving.Came.{Came}
+use Rattle.http_front.specs.declared.arriving.End.{End}
+use Rattle.http_front.specs.declared.next_unit.Ahead.{Ahead}
+use Rattle.http_front.specs.declared.next_unit.Ahead.TheVariants as Ahead
 use Rattle.http_front.specs.declared.next_unit.Told.{Told}
 use Rattle.http_front.specs.declared.framing.Framing.{Framing}
 use Rattle.http_front.specs.declared.next_unit.Next.{Next}
 use Rattle.http_front.specs.declared.next_unit.Next.TheVariants as Answer
+use Rattle.http_front.specs.Arriving.{content_at}
+use Rattle.http_front.specs.Content.{content_by}
 use Rattle.http_front.specs.Front.{head_begun}
 use Rattle.http_front.specs.NextUnit.{Found, request, NextUnit}
+use Rattle.http_front.specs.Progress.{IsSearched, Opens}
 use Rattle.http_front.specs.Reading.{Reading, limit_or, kept_limit, answer_at, told_of}
 use Rattle.http_front.specs.Stands.{Stands, head_unit, content_unit}
 
@@ -17,10 +24,11 @@ pub data Stage : Type 0 where
   head : Stage
   content : Request → Framing → Stage
 
--- where a reader stood: the bytes that it kept, whether the input had ended behind them, and of the request at their front
--- the limit of its content and whether its `100 Continue` was told
+-- where a reader stood: the bytes that it kept, what it kept of those before them, whether the input had ended behind them,
+-- and of the request at their front the limit of its content and whether its `100 Continue` was told
 pub record Mark : Type 0 where
   pub bytes : List ℕ
+  pub stage : Stage
   pub ended : Bool
   pub limit : Option ℕ
   pub is_told : Bool
@@ -78,7 +86,7 @@ marked k = record {
   from = k.from;
   to = k.to;
   bytes = k.mark.bytes;
-  stage = head;
+  stage = k.mark.stage;
   ended = k.mark.ended;
   limit = k.mark.limit;
   is_told = k.mark.is_told;
@@ -126,3 +134,24 @@ Unchanged k limit = (kept_answer k limit ≡ Answer.NeedMore) × (kept_next k li
 -- what a step tells of what is kept
 abbrev pub told_in : Kept → ℕ → Told
 told_in k limit = told_of k.from k.to (begun_at k.stage k.bytes) (unit_of k limit)
+
+-- ---- what a call lets be known of what is kept
+
+-- how much of the content came
+abbrev pub came_in : Stage → Option Came
+came_in head = None
+came_in (content r framing) = Some (record { len = length r.body; framing = framing })
+
+abbrev pub is_arriving : Stage → Bool
+is_arriving head = false
+is_arriving (content r framing) = true
+
+-- what stands behind the content that came
+abbrev pub EndsIn : End → List ℕ → Stage → Type 0
+EndsIn end bytes head = ⊥
+EndsIn end bytes (content r framing) = content_by framing bytes ≡ content_at end
+
+-- what a step lets be known of what is kept
+abbrev pub Enters : Ahead → Kept → Type 0
+Enters (Ahead.Head s) k = IsSearched s k.bytes
+Enters (Ahead.Content len a) k = (limit : ℕ) × (k.limit ≡ Some limit) × Opens len a k.bytes limit

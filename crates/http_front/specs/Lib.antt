@@ -15,4 +15,6 @@ pub mod Session
 pub mod Reading
 pub mod Progress
 pub mod Stands
+pub mod Arriving
 pub mod Kept
+pub mod Inside

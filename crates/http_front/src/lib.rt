@@ -1,6 +1,7 @@
 //! The front of a server: requests out of the bytes of a connection, and replies into them (RFC 9112).
 #![tactic(auto)]
 
+mod arriving;
 mod checks;
 mod chunk;
 mod closing;

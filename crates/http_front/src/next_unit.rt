@@ -1,28 +1,33 @@
 //! What stands at the front of the bytes of a connection (RFC 9112, sections 2, 3 and 6).
-ghost use Rattle.std.specs.Prelude.{◌≡◌, ◌⊎◌, ◌+◌, ◌^◌, ◌<◌, ◌≤◌, ℕ, Bool, List, length, None, true, false, IfOk};
+ghost use Rattle.std.specs.Prelude.{◌≡◌, ◌+◌, ◌^◌, ◌<◌, ◌≤◌, ℕ, Bool, List, length, None, true, false, IfOk};
 ghost use Rattle.http_front.specs.Front.{blank_len, front_found, head_begun, is_ready};
 ghost use Rattle.http_front.specs.Head.{head_of};
 ghost use Rattle.http_front.specs.Checks as checks;
 ghost use Rattle.http_front.specs.NextUnit as spec;
 ghost use Rattle.http_front.specs.NextUnit.{NextUnit};
+ghost use Rattle.http_front.specs.Arriving.{content_come, end_len};
+ghost use Rattle.http_front.specs.Content as content;
 ghost use Rattle.http_front.specs.Content.{content_of};
-ghost use Rattle.http_front.specs.Framing.{content_length, framing_of};
-ghost use Rattle.http_front.specs.declared.progress.Progress.TheVariants as At;
-ghost use Rattle.http_front.specs.Progress.{start, Tells, TellsBehind};
-ghost use Rattle.http_front.specs.Reading.{told_of, told_request, refused};
+ghost use Rattle.http_front.specs.Framing.{content_length};
+ghost use Rattle.http_front.specs.declared.next_unit.Ahead.TheVariants as Found;
+ghost use Rattle.http_front.specs.Progress.{start, ahead_of, Tells, TellsBehind, TellsContent};
+ghost use Rattle.http_front.specs.Reading.{open_answer, told_of, told_request, refused};
 ghost use Rattle.unit_types.specs.Limits.{head_limit};
 ghost use Rattle.unit_types.specs.declared.message.Addr.{Addr};
 
+use crate::arriving::{Arriving, End};
 use crate::checks::refusal_of;
-use crate::content::{Content, content_of, is_continue_due};
+use crate::content::is_continue_due;
+use crate::framing::framing_of;
 use crate::head::whole_head;
 use crate::lines::{blank_len, block_len, has_too_many_lines};
-use crate::progress::{Progress, content_progress, head_progress};
+use crate::progress::head_search;
 use crate::request::request_of;
+use crate::search::Search;
 use crate::slices::{behind, first_bytes};
 use httparse::spans::EMPTY_HEADER_SPAN;
 use std::alloc::{AllocError, Global};
-use unit_types::{Addr, FIELD_LIMIT, HEAD_LIMIT, Request};
+use unit_types::{Addr, Bytes, FIELD_LIMIT, HEAD_LIMIT, Request};
 
 /// What a reader finds next in its bytes.
 #[derive(Debug, Drop)]
@@ -51,11 +56,29 @@ pub(crate) struct Told {
     pub(crate) is_begun: bool,
 }
 
-/// What is told of the front of some bytes, and how far their reading has come.
+/// What is ahead where more bytes are needed.
+#[derive(Debug, Drop)]
+pub(crate) enum Ahead {
+    /// The end of a head, which was looked for so far.
+    Head(Search),
+    /// The rest of a content, behind so many bytes.
+    Content(usize, Arriving),
+}
+
+/// What is told of the front of some bytes, and what is ahead.
 #[derive(Debug, Drop)]
 pub(crate) struct Step {
     pub(crate) told: Told,
-    pub(crate) progress: Progress,
+    pub(crate) ahead: Ahead,
+}
+
+impl Next {
+    /// The answer to a request that isn't whole, given whether the input ended.
+    pub(crate) fn open(ended: bool) -> Next
+        ensures { result ≡ open_answer ended }
+    {
+        if ended { Next::Cut } else { Next::NeedMore }
+    }
 }
 
 impl Told {
@@ -75,11 +98,11 @@ impl Told {
 impl Step {
     // the same, of which nothing more is to be known
     fn refused(status: u16) -> Step
-        ensures { result ≡ record { told = refused status; progress = start } }
+        ensures { result ≡ record { told = refused status; ahead = Found.Head start } }
     {
         Step {
             told: Told::refused(status),
-            progress: Progress::START,
+            ahead: Ahead::Head(Search::START),
         }
     }
 }
@@ -95,8 +118,7 @@ pub(crate) fn read_front(
 ) -> Result<Step, AllocError>
     ensures told { IfOk result (λ step. step.told
         ≡ told_of from to (head_begun bytes.now) (spec.next_unit bytes.now ended max_body)) }
-    ensures progress { IfOk result
-        (λ step. Tells step.progress bytes.now max_body step.told.is_due) }
+    ensures ahead { IfOk result (λ step. Tells step.ahead bytes.now max_body) }
 {
     let blank = blank_len(bytes);
     let rest = behind(bytes, blank);
@@ -113,7 +135,7 @@ pub(crate) fn read_front(
         ),
         None => Ok(Step {
             told: without_block(rest, ended),
-            progress: head_progress(bytes),
+            ahead: Ahead::Head(head_search(bytes)),
         }),
     }
 }
@@ -158,9 +180,9 @@ fn read_block(
     ensures told { IfOk result (λ step. step.told
         ≡ told_of from to true (spec.block_unit
         (checks.has_too_many_lines block.now) max_body used rest.now ended (head_of block.now))) }
-    ensures progress { IfOk result (λ step. TellsBehind step.progress used
-        (λ bytes. spec.block_unit (checks.has_too_many_lines block.now) max_body used bytes false
-        (head_of block.now)) step.told.is_due) }
+    ensures ahead { IfOk result (λ step. TellsBehind step.ahead used rest.now
+        (λ bytes over. spec.block_unit (checks.has_too_many_lines block.now) max_body used bytes
+        over (head_of block.now))) }
 {
     let mut headers = [EMPTY_HEADER_SPAN; FIELD_LIMIT];
     let Some(spans) = whole_head(block, &mut headers) else {
@@ -179,8 +201,8 @@ fn without_head(block: &[u8]) -> Step
     ensures told { (from to : Addr) (limit used : ℕ) (rest : List ℕ) (ended : Bool)
         → result.told ≡ told_of from to true (spec.block_unit
         (checks.has_too_many_lines block.now) limit used rest ended (head_of block.now)) }
-    ensures progress { (used : ℕ) (unit : List ℕ → NextUnit) (due : Bool)
-        → TellsBehind result.progress used unit due }
+    ensures ahead { (used : ℕ) (rest : List ℕ) (unit : List ℕ → Bool → NextUnit)
+        → TellsBehind result.ahead used rest unit }
 {
     if has_too_many_lines(block) {
         Step::refused(431)
@@ -199,27 +221,56 @@ fn read_content(
     max_body: u64,
 ) -> Result<Step, AllocError>
     requires fits { used + length rest.now < 2 ^ 64 }
+    requires length { content_length request.fields ≤ max_body }
     ensures told { IfOk result (λ step. step.told
         ≡ told_request request used ended (content_of max_body request.fields rest.now)) }
-    ensures progress { IfOk result (λ step. (step.progress ≡ start)
-        ⊎ (content_length request.fields ≤ max_body
-        → step.progress ≡ At.Content used (framing_of max_body request.fields))) }
+    ensures ahead { IfOk result (λ step. TellsContent step.ahead used rest.now max_body request) }
 {
     let is_due = is_continue_due(&request);
-    let mut progress = Progress::START;
+    let Some(framing) = framing_of(max_body, request.fields.as_slice()) else {
+        unreachable!();
+    };
+    let mut arriving = Arriving {
+        request,
+        content: Vec::new(alloc),
+        framing,
+    };
+    let mut passed = 0;
+    let end = arriving.decode(rest, &mut passed)?;
+    Ok(content_step(arriving, end, used + passed, is_due, ended))
+}
+
+// what is told where so much of a request was read
+#[inline(always)]
+fn content_step(arriving: Arriving, end: End, used: usize, is_due: bool, ended: bool) -> Step
+    requires fits { used + end_len end < 2 ^ 64 }
+    requires due { is_due ≡ content.is_continue_due arriving.request.minor arriving.request.fields }
+    ensures told { result.told ≡ told_request arriving.request used ended
+        (content_come arriving.content.items end) }
+    ensures ahead { result.ahead ≡ ahead_of end used arriving }
+{
     let mut told = Told {
-        answer: if ended { Next::Cut } else { Next::NeedMore },
+        answer: Next::open(ended),
         used: 0,
         is_due,
         is_begun: true,
     };
-    match content_of(alloc, max_body, request.fields.as_slice(), rest)? {
-        Content::Whole(body, len) => {
-            told.answer = Next::Request(Request { body, ..request });
+    let mut ahead = Ahead::Head(Search::START);
+    match end {
+        End::Whole(len) => {
+            let Arriving {
+                request,
+                content,
+                ..
+            } = arriving;
+            told.answer = Next::Request(Request {
+                body: Bytes::of(content),
+                ..request
+            });
             told.used = used + len;
         }
-        Content::Refused(status) => told.answer = Next::Bad(status),
-        Content::Open => progress = content_progress(used, max_body, request.fields.as_slice()),
+        End::Refused(status) => told.answer = Next::Bad(status),
+        End::Open => ahead = Ahead::Content(used, arriving),
     }
-    Ok(Step { told, progress })
+    Step { told, ahead }
 }

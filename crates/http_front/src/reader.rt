@@ -1,10 +1,12 @@
 //! The requests of a connection, read from its bytes in any pieces.
-ghost use Rattle.std.specs.Prelude.{◌≡◌, ◌&&◌, not, [], true, false, ℕ, IfOk, OnOk, OnErr, IsTrue};
-ghost use Rattle.http_front.specs.Kept.{HasRead, fed, at_end, kept_answer, kept_next, marked, Unchanged};
+ghost use Rattle.std.specs.Prelude.{◌≡◌, ◌≤◌, ◌&&◌, not, [], true, false, ℕ, length, IfOk, OnOk, OnErr, IsTrue};
+ghost use Rattle.http_front.specs.Kept.{HasRead, head, fed, at_end, came_in, is_arriving, kept_answer, kept_next, marked, told_in, Unchanged, EndsIn, Enters};
 ghost use Rattle.http_front.specs.Reading.{Reading, reading_of, has_begun, limit_or, kept_limit, is_request, next_answer, next_reading, HasSmallStatus};
 
-use crate::next_unit::{Next, read_front};
-use crate::progress::{Progress, progress_over};
+use crate::arriving::{Arriving, Came, End};
+use crate::next_unit::{Ahead, Next, Told, read_front};
+use crate::progress::{Progress, search_over};
+use crate::search::Search;
 use crate::slices::behind;
 use std::alloc::{AllocError, Global};
 use std::marker::Model;
@@ -19,6 +21,8 @@ struct Place {
     ended: bool,
     limit: Option<u64>,
     is_told: bool,
+    // how much had come of the content that arrived
+    came: Option<Came>,
 }
 
 impl Place {
@@ -28,14 +32,15 @@ impl Place {
         ended: false,
         limit: None,
         is_told: false,
+        came: None,
     };
 }
 
 /// Reads the requests of a connection from its bytes, in whatever pieces they come.
 ///
 /// A `Reading` is what it has read: the bytes that no request has used yet, whether the input ended behind them, and what
-/// holds of the request at their front. A reader lets bytes go whose meaning it keeps; `HasRead` relates the reading to what
-/// it keeps, and each contract holds for every reading.
+/// holds of the request at their front. A reader lets bytes go whose meaning it keeps: empty lines, a complete head, the
+/// framing of a content. `HasRead` relates the reading to what it keeps, and each contract holds for every reading.
 #[derive(Debug, Drop)]
 pub struct Reader {
     from: Addr,
@@ -48,36 +53,22 @@ pub struct Reader {
     limit: Option<u64>,
     is_told: bool,
     progress: Progress,
+    // the request whose content arrives; or arrived since the mark, which needs it
+    arriving: Option<Arriving>,
     // where it goes back to
     mark: Place,
 }
 
 impl Model for Reader {
-    ghost use Rattle.std.specs.Prelude.{◌≤◌, length, drop, take};
-    ghost use Rattle.http_front.specs.Kept.{Kept, head};
-    ghost use Rattle.http_front.specs.Progress.{Knows};
+    ghost use Rattle.http_front.specs.Kept.{Kept};
 
     ghost Value = { Kept };
 
-    ghost view = { λ r. record {
-      from = r.from;
-      to = r.to;
-      bytes = drop r.used r.bytes.items;
-      stage = head;
-      ended = r.ended;
-      limit = r.limit;
-      is_told = r.is_told;
-      mark = record {
-        bytes = drop r.mark.used (take r.mark.len r.bytes.items);
-        ended = r.mark.ended;
-        limit = r.mark.limit;
-        is_told = r.mark.is_told;
-      };
-    } };
+    ghost use Rattle.http_front.specs.Inside.{kept_of, IsSound};
 
-    ghost invariant = { λ r. (r.used ≤ length r.bytes.items)
-        × Knows r.progress (drop r.used r.bytes.items) r.limit r.is_told
-        × (r.mark.used ≤ r.mark.len) × (r.mark.len ≤ length r.bytes.items) };
+    ghost view = { kept_of };
+
+    ghost invariant = { IsSound };
 }
 
 impl Reader {
@@ -105,6 +96,7 @@ impl Reader {
             limit: None,
             is_told: false,
             progress: Progress::START,
+            arriving: None,
             mark: Place::START,
         }
     }
@@ -167,13 +159,38 @@ impl Reader {
         ensures marked { (r : Reading) → HasRead r self.old → HasRead r (marked self.new) }
         ensures ended { self.new.ended ≡ self.old.ended }
     {
+        self.forget_arrived();
+        let came = self.came();
         self.mark = Place {
             len: self.bytes.len(),
             used: self.used,
             ended: self.ended,
             limit: self.limit,
             is_told: self.is_told,
+            came,
         };
+    }
+
+    // lets a content go that doesn't arrive any more; where it was marked is forgotten
+    #[inline(always)]
+    fn forget_arrived(&mut self)
+        ensures { self.new ≡ record self.old { mark = self.new.mark } }
+    {
+        // without the first test the room of a content would be written at each call
+        if self.arriving.is_some() && !self.is_arriving() {
+            self.arriving = None;
+        }
+    }
+
+    // how much came of the content that arrives
+    #[inline(always)]
+    fn came(&self) -> Option<Came>
+        ensures { result ≡ came_in self.now.stage }
+    {
+        match (self.progress, &self.arriving) {
+            (Progress::Content, Some(arriving)) => Some(arriving.came()),
+            _ => None,
+        }
     }
 
     /// Goes back to where it was marked: it has read then what it had read there. It takes no memory.
@@ -186,6 +203,12 @@ impl Reader {
         self.limit = self.mark.limit;
         self.is_told = self.mark.is_told;
         self.progress = Progress::START;
+        if let Some(came) = self.mark.came
+            && let Some(arriving) = &mut self.arriving
+        {
+            arriving.cut_to(came);
+            self.progress = Progress::Content;
+        }
     }
 
     /// Says that the input ended behind the bytes so far.
@@ -204,10 +227,13 @@ impl Reader {
         self.ended = true;
     }
 
-    /// How many bytes it keeps.
+    /// How many bytes it keeps, a content with them.
     #[cfg(test)]
     pub(crate) fn kept_len(&self) -> usize {
-        self.bytes.len()
+        match &self.arriving {
+            Some(arriving) => self.bytes.len().saturating_add(arriving.content.len()),
+            None => self.bytes.len(),
+        }
     }
 
     /// Whether the head of the request at the front is complete, as far as the calls of `next` found it.
@@ -233,17 +259,6 @@ impl Reader {
         ensures marked { marked self.new ≡ marked self.old }
         ensures small { IfOk result HasSmallStatus }
     {
-        self.take_next(alloc, max_body)
-    }
-
-    // the same by what is kept
-    #[inline(always)]
-    fn take_next(&mut self, alloc: Global, max_body: u64) -> Result<Next, AllocError>
-        ensures answer { IfOk result (λ answer. answer ≡ kept_answer self.old max_body) }
-        ensures ok { OnOk result (self.new ≡ kept_next self.old max_body) }
-        ensures err { OnErr result (self.new ≡ self.old) }
-        ensures small { IfOk result HasSmallStatus }
-    {
         if self.still_waits() {
             Ok(Next::NeedMore)
         } else {
@@ -251,41 +266,89 @@ impl Reader {
         }
     }
 
-    // whether more bytes are needed, as far as the progress so far tells
+    // the same, by what arrives. It stands apart from `next`, which goes into its caller: a call that only waits for a head
+    // then needs none of this room, and builds no answer.
+    #[inline(never)]
+    fn read(&mut self, alloc: Global, max_body: u64) -> Result<Next, AllocError>
+        ensures answer { IfOk result
+            (λ answer. (r : Reading) → HasRead r self.old → answer ≡ next_answer r max_body) }
+        ensures ok { OnOk result
+            ((r : Reading) → HasRead r self.old → HasRead (next_reading r max_body) self.new) }
+        ensures err { OnErr result ((r : Reading) → HasRead r self.old → HasRead r self.new) }
+        ensures ended { self.new.ended ≡ self.old.ended }
+        ensures marked { marked self.new ≡ marked self.old }
+        ensures small { IfOk result HasSmallStatus }
+    {
+        if self.is_arriving() {
+            self.read_content(alloc, max_body)
+        } else {
+            self.read_head(alloc, max_body)
+        }
+    }
+
+    #[inline(always)]
+    fn is_arriving(&self) -> bool
+        ensures { result ≡ is_arriving self.now.stage }
+    {
+        self.progress == Progress::Content && self.arriving.is_some()
+    }
+
+    // whether more bytes are needed for a head, as far as the search so far tells
     fn still_waits(&mut self) -> bool
         ensures same { self.new ≡ self.old }
         ensures waits { IsTrue result → (limit : ℕ) → Unchanged self.old limit }
     {
-        if self.ended || self.progress == Progress::START {
+        let Progress::Head(search) = self.progress else {
+            return false;
+        };
+        if self.ended || search == Search::START {
             return false;
         }
-        match progress_over(self.progress, behind(&self.bytes, self.used)) {
-            Some(progress) => {
-                self.progress = progress;
+        match search_over(search, behind(&self.bytes, self.used)) {
+            Some(search) => {
+                self.progress = Progress::Head(search);
                 true
             }
             None => false,
         }
     }
 
-    // the same as `take_next`, by all bytes anew. It stands apart from `next`, which goes into its caller: a call that only
-    // waits then needs none of this room, and builds no answer.
-    #[inline(never)]
-    fn read(&mut self, alloc: Global, max_body: u64) -> Result<Next, AllocError>
+    // the same as `next`, by all bytes anew
+    fn read_head(&mut self, alloc: Global, max_body: u64) -> Result<Next, AllocError>
+        requires { self.old.stage ≡ head }
         ensures answer { IfOk result (λ answer. answer ≡ kept_answer self.old max_body) }
-        ensures ok { OnOk result (self.new ≡ kept_next self.old max_body) }
+        ensures ok { OnOk result
+            ((r : Reading) → HasRead r self.old → HasRead (next_reading r max_body) self.new) }
         ensures err { OnErr result (self.new ≡ self.old) }
+        ensures ended { self.new.ended ≡ self.old.ended }
+        ensures marked { marked self.new ≡ marked self.old }
         ensures small { IfOk result HasSmallStatus }
     {
         let limit = limit_or(self.limit, max_body);
         let unread = behind(&self.bytes, self.used);
         let step = read_front(alloc, self.from, self.to, unread, self.ended, limit)?;
-        let told = step.told;
+        let answer = self.turn(step.told, max_body);
+        if is_request(&answer) {
+            return Ok(answer);
+        }
+        self.enter(step.ahead);
+        Ok(answer)
+    }
+
+    // answers by what is told of what is kept
+    #[inline(always)]
+    fn turn(&mut self, told: Told, max_body: u64) -> Next
+        requires told { told ≡ told_in self.old max_body }
+        requires fits { told.used ≤ length self.old.bytes }
+        requires small { HasSmallStatus told.answer }
+        ensures answer { result ≡ kept_answer self.old max_body }
+        ensures value { self.new ≡ kept_next self.old max_body }
+        ensures small { HasSmallStatus result }
+    {
         if asks_now(told.is_due, self.is_told) {
             self.limit = kept_limit(told.is_begun, self.limit, max_body);
             self.is_told = true;
-            self.progress = step.progress;
-            return Ok(Next::Continue);
+            return Next::Continue;
         }
         if is_request(&told.answer) {
             self.used += told.used;
@@ -294,9 +357,74 @@ impl Reader {
             self.progress = Progress::START;
         } else {
             self.limit = kept_limit(told.is_begun, self.limit, max_body);
-            self.progress = step.progress;
         }
-        Ok(told.answer)
+        told.answer
+    }
+
+    // goes on to what is ahead. A request that the mark needs stays: the head is then read anew by the next call behind a
+    // mark.
+    fn enter(&mut self, ahead: Ahead)
+        requires head { self.old.stage ≡ head }
+        requires enters { Enters ahead self.old }
+        ensures read { (r : Reading) → HasRead r self.old → HasRead r self.new }
+        ensures ended { self.new.ended ≡ self.old.ended }
+        ensures marked { marked self.new ≡ marked self.old }
+    {
+        self.progress = Progress::START;
+        match ahead {
+            Ahead::Head(search) => self.progress = Progress::Head(search),
+            Ahead::Content(len, arriving) => {
+                if self.mark.came.is_none() {
+                    self.used += len;
+                    self.arriving = Some(arriving);
+                    self.progress = Progress::Content;
+                }
+            }
+        }
+    }
+
+    // the same as `next`, by the rest of the content that arrives
+    fn read_content(&mut self, alloc: Global, max_body: u64) -> Result<Next, AllocError>
+        requires { is_arriving self.old.stage ≡ true }
+        ensures answer { IfOk result
+            (λ answer. (r : Reading) → HasRead r self.old → answer ≡ next_answer r max_body) }
+        ensures ok { OnOk result
+            ((r : Reading) → HasRead r self.old → HasRead (next_reading r max_body) self.new) }
+        ensures err { OnErr result ((r : Reading) → HasRead r self.old → HasRead r self.new) }
+        ensures ended { self.new.ended ≡ self.old.ended }
+        ensures marked { marked self.new ≡ marked self.old }
+        ensures small { IfOk result HasSmallStatus }
+    {
+        let end = self.decode()?;
+        let told = self.tell(alloc, end)?;
+        Ok(self.turn(told, max_body))
+    }
+
+    // takes what came of the content, and says what stands behind it
+    fn decode(&mut self) -> Result<End, AllocError>
+        requires { is_arriving self.old.stage ≡ true }
+        ensures read { (r : Reading) → HasRead r self.old → HasRead r self.new }
+        ensures ends { IfOk result (λ end. EndsIn end self.new.bytes self.new.stage) }
+        ensures ended { self.new.ended ≡ self.old.ended }
+        ensures marked { marked self.new ≡ marked self.old }
+    {
+        let Some(arriving) = &mut self.arriving else {
+            unreachable!();
+        };
+        arriving.decode(&self.bytes, &mut self.used)
+    }
+
+    // what is told where that stands behind the content that came
+    fn tell(&self, alloc: Global, end: End) -> Result<Told, AllocError>
+        requires { EndsIn end self.now.bytes self.now.stage }
+        ensures told { IfOk result (λ told. (limit : ℕ) → told ≡ told_in self.now limit) }
+        ensures fits { IfOk result (λ told. told.used ≤ length self.now.bytes) }
+        ensures small { IfOk result (λ told. HasSmallStatus told.answer) }
+    {
+        let Some(arriving) = &self.arriving else {
+            unreachable!();
+        };
+        arriving.told(alloc, self.from, self.to, end, self.ended)
     }
 }
 

@@ -367,10 +367,94 @@ fn goes_back(rt: HostRuntime) {
 }
 
 // whether a whole request comes next, or more bytes are needed
-fn is_next(rt: &HostRuntime, reader: &mut Reader, whole: bool) -> Result<bool, AllocError> {
-    Ok(match reader.next(rt.alloc(), 0)? {
+fn is_next(rt: &HostRuntime, reader: &mut Reader, whole: bool) -> Result<bool, AllocError>
+    ensures { reader.new.ended ≡ reader.old.ended }
+{
+    Ok(match reader.next(rt.alloc(), 100)? {
         Next::Request(_) => whole,
         Next::NeedMore => !whole,
         _ => false,
     })
+}
+
+// so many chunks of one byte behind a long line, in pieces that end inside a line
+fn feed_small_chunks(rt: &HostRuntime, reader: &mut Reader, pieces: u32) -> Result<bool, AllocError>
+    requires { reader.old.ended ≡ false }
+    ensures { reader.new.ended ≡ reader.old.ended }
+{
+    for _ in 0..pieces {
+        reader.feed(rt.alloc(), b"xxxxxxxxxxxxxxxxxxxxxxxxxxxxxx\r\nx\r\n1;x=xx")?;
+        if !matches!(reader.next(rt.alloc(), 1000)?, Next::NeedMore) {
+            return Ok(false);
+        }
+    }
+    Ok(true)
+}
+
+#[test]
+fn lets_framing_go(rt: HostRuntime) {
+    let mut reader = Reader::open(rt.alloc(), CLIENT, SERVER).expect(&rt, "opened");
+    reader.feed(rt.alloc(), CHUNKED_HEAD).expect(&rt, "fed");
+    reader.feed(rt.alloc(), b"1;").expect(&rt, "fed");
+    assert!(rt; feed_small_chunks(&rt, &mut reader, 1000).expect(&rt, "fed"));
+    assert!(rt; reader.kept_len() <= 1000 + 100);
+    reader.feed(rt.alloc(), b"\r\n!\r\n").expect(&rt, "fed");
+    let answer = reader.next(rt.alloc(), 1000).expect(&rt, "read");
+    assert!(rt; matches!(answer, Next::Bad(413)));
+}
+
+// a content in chunks or with a length, its head and a part of it, the rest of it, and the whole content
+const PARTS: [(&[u8], &[u8], &[u8]); 3] = [
+    (
+        b"POST / HTTP/1.1\r\nHost: a\r\nTransfer-Encoding: chunked\r\n\r\n2\r\nab\r\n3\r",
+        b"\ncde\r\n0\r\n\r\n",
+        b"abcde",
+    ),
+    (
+        b"POST / HTTP/1.1\r\nHost: a\r\nTransfer-Encoding: chunked\r\n\r\n5\r\nab",
+        b"cde\r\n0\r\n\r\n",
+        b"abcde",
+    ),
+    (
+        b"POST / HTTP/1.1\r\nHost: a\r\nContent-Length: 5\r\n\r\nab",
+        b"cde",
+        b"abcde",
+    ),
+];
+
+// whether a request with that content is next, the second time like the first once the reader went back
+fn has_content_again(
+    rt: &HostRuntime,
+    reader: &mut Reader,
+    rest: &[u8],
+    wanted: &[u8],
+) -> Result<bool, AllocError>
+    requires { reader.old.ended ≡ false }
+{
+    reader.feed(rt.alloc(), rest)?;
+    let first = has_content(reader.next(rt.alloc(), 100)?, wanted);
+    reader.go_back();
+    let waits = matches!(reader.next(rt.alloc(), 100)?, Next::NeedMore);
+    reader.mark();
+    reader.go_back();
+    reader.feed(rt.alloc(), rest)?;
+    let second = has_content(reader.next(rt.alloc(), 100)?, wanted);
+    Ok(first && waits && second)
+}
+
+fn has_content(answer: Next, wanted: &[u8]) -> bool {
+    match answer {
+        Next::Request(request) => request.body.as_slice() == wanted,
+        _ => false,
+    }
+}
+
+#[test]
+fn goes_back_into_a_content(rt: HostRuntime) {
+    for (front, rest, wanted) in PARTS {
+        let mut reader = Reader::open(rt.alloc(), CLIENT, SERVER).expect(&rt, "opened");
+        reader.feed(rt.alloc(), front).expect(&rt, "fed");
+        assert!(rt; is_next(&rt, &mut reader, false).expect(&rt, "read"));
+        assert!(rt; has_content_again(&rt, &mut reader, rest, wanted).expect(&rt, "read"));
+    }
 }

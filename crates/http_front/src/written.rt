@@ -1,5 +1,5 @@
 //! Replies as the bytes of HTTP/1.1 (RFC 9112, sections 4 to 6).
-ghost use Rattle.std.specs.Prelude.{◌≡◌, ◌++◌, ◌<◌, true, flat_map, length, IfOk, OnOk, OnErr};
+ghost use Rattle.std.specs.Prelude.{◌≡◌, ◌++◌, ◌<◌, true, [], flat_map, length, IfOk, OnOk, OnErr};
 ghost use Rattle.http_front.specs.Written as spec;
 
 use itoa::Buffer;
@@ -22,8 +22,32 @@ pub fn write_http(
     ensures ok { OnOk result (out.new ≡ out.old ++ spec.http_bytes reply.now head close) }
     ensures err { OnErr result (out.new ≡ out.old) }
 {
-    let text = head_text(alloc, reply, close)?;
-    append_both(alloc, out, text.as_slice(), content_of(reply, head))
+    put_reply(alloc, reply, close, content_of(reply, head), out)
+}
+
+// puts the head of a reply and this content behind `out`, or nothing. Where nothing stands there, they are written into its
+// own room, and nothing is copied again.
+fn put_reply(
+    alloc: Global,
+    reply: &Reply,
+    close: bool,
+    content: &[u8],
+    out: &mut Bytes,
+) -> Result<(), AllocError>
+    requires { reply.now.status < 1000 }
+    ensures ok { OnOk result
+        (out.new ≡ out.old ++ (spec.head_text reply.now close ++ content.now)) }
+    ensures err { OnErr result (out.new ≡ out.old) }
+{
+    if out.as_slice().is_empty() {
+        let room = replace(out, Bytes::of(Vec::new(alloc))).into_vec();
+        let mut text = head_text(room, reply, close, content.len())?;
+        text.extend_from_slice(content)?;
+        *out = Bytes::of(text);
+        return Ok(());
+    }
+    let text = head_text(Vec::new(alloc), reply, close, 0)?;
+    append_both(alloc, out, text.as_slice(), content)
 }
 
 // puts both texts behind `out`, or none
@@ -47,6 +71,7 @@ fn extend_by_both(items: &mut Vec<u8>, first: &[u8], second: &[u8]) -> Result<()
     ensures err { OnErr result (items.new.items ≡ items.old.items) }
 {
     let len = items.len();
+    items.reserve(first.len().saturating_add(second.len()))?;
     items.extend_from_slice(first)?;
     let extended = items.extend_from_slice(second);
     if extended.is_err() {
@@ -74,12 +99,14 @@ fn content_of(reply: &Reply, head: bool) -> &[u8]
     }
 }
 
-// the bytes of a reply up to its content
-fn head_text(alloc: Global, reply: &Reply, close: bool) -> Result<Vec<u8>, AllocError>
-    requires { reply.now.status < 1000 }
+// the bytes of a reply up to its content, in the room of an empty text, with more for so many bytes behind them
+fn head_text(room: Vec<u8>, reply: &Reply, close: bool, more: usize) -> Result<Vec<u8>, AllocError>
+    requires status { reply.now.status < 1000 }
+    requires empty { room.items ≡ [] }
     ensures { IfOk result (λ text. text.items ≡ spec.head_text reply.now close) }
 {
-    let mut text = Vec::new(alloc);
+    let mut text = room;
+    text.reserve(more.saturating_add(head_room(reply.fields.as_slice())))?;
     put_status_line(&mut text, reply.status)?;
     put_kept_lines(&mut text, reply.fields.as_slice())?;
     put_length_line(
@@ -90,6 +117,26 @@ fn head_text(alloc: Global, reply: &Reply, close: bool) -> Result<Vec<u8>, Alloc
     put_close_line(&mut text, close)?;
     text.extend_from_slice(b"\r\n")?;
     Ok(text)
+}
+
+/// As many bytes as the lines of a head have that aren't the reply's own fields.
+const OWN_LINES: usize = 128;
+
+/// Bytes of a field line beside its name and its value.
+const LINE_MARKS: usize = 4;
+
+// for how many bytes a head takes room at once
+fn head_room(fields: &[Field]) -> usize {
+    let mut room = OWN_LINES;
+    for field in fields {
+        let texts = field
+            .name
+            .as_slice()
+            .len()
+            .saturating_add(field.value.as_slice().len());
+        room = room.saturating_add(texts).saturating_add(LINE_MARKS);
+    }
+    room
 }
 
 fn has_no_content(status: u16) -> bool

@@ -7,6 +7,7 @@ pub mod RingWords
 pub mod Full
 pub mod Staying
 pub mod Sharing
+pub mod MomentLaws
 pub mod RingStep
 pub mod Stepping
 pub mod Starts

@@ -16,8 +16,9 @@ use Rattle.nncq_ring.specs.Moments.{Meets, PutLast, TookFirst, WasEmpty, WasEntr
 use Rattle.nncq_ring.specs.Notes.{EntryNoted, Noted, RingPart}
 use Rattle.nncq_ring.specs.Rule.{line_weight}
 use Rattle.nncq_ring.specs.Shown.{SawPlace, ShowsFilled}
-use Rattle.nncq_ring.proofs.Exchanges.{tail_at, tail_cases, not_lower, pushed_tail, pushed_line, helped_tail, helped_line, popped_tail, popped_line}
-use Rattle.nncq_ring.proofs.Noting.{empty_seen, look_noted, may_help, may_take, near_cycle}
+use Rattle.nncq_ring.proofs.Exchanges.{tail_cases, not_lower, pushed_tail, pushed_line, helped_tail, helped_line, popped_tail, popped_line}
+use Rattle.nncq_ring.proofs.MomentLaws.{empty_at, filled_above, first_there, near_place, put_last, took_first}
+use Rattle.nncq_ring.proofs.Noting.{look_noted, may_help}
 use Rattle.nncq_ring.proofs.RingParts.{note_at, part_steps, part_pushes, part_helps, part_pops}
 use Rattle.nncq_ring.proofs.RingWords.{stays_later}
 use Rattle.nncq_ring.proofs.Rising.{pushed_later, helped_later, popped_later, room_left}
@@ -64,17 +65,10 @@ module _ (V : Type 0) (n : ℕ) (log : V → List RingEvent) (held : (ℕ → �
   entry_noted place = look_noted n place w part.fine
 
   pub was_empty : (place : ℕ) → get_elem? (log v) 0 ≡ some (SawHead place) → w.entry (place % n) / n + 1 ≡ place / n → WasEmpty n place (log v)
-  was_empty place seen before =
-      let empty_now = empty_seen n place w part.fine (note 0 (SawHead place) seen) before in
-      record { words = w; met = met; head = empty_now.0; line = empty_now.2 }
+  was_empty = empty_at n (log v) w met
 
   pub near : (place : ℕ) → SawPlace place (log v) → place / n ≤ w.entry (place % n) / n + 1
-  near place seen =
-      let below_next : place ≤ logical_tail n w = ⊎_elim
-      (λ tail. let most : place ≤ w.tail = note 0 (SawTail place) tail in ⊎_elim (λ is. omega (arith, is, most)) (λ is. omega (arith, is, most)) (tail_cases n w))
-      (λ head. let most : place ≤ w.head = note 0 (SawHead place) head in omega (arith, most, part.fine.front))
-      seen in
-      near_cycle n place w part.fine below_next
+  near = near_place n (log v) w met
 
   -- ---- an entry exchange, where the tail was seen and then the entry
 
@@ -86,6 +80,7 @@ module _ (V : Type 0) (n : ℕ) (log : V → List RingEvent) (held : (ℕ → �
         let there : w.entry (t % n) / n + 1 ≡ t / n = ap (λ (y : ℕ). y / n + 1) found ∙ before in
         let room : logical_tail n w < w.head + n = room_left n w (λ f. others f + weigh (held f) views) part.fine (λ f. omega (arith, owned f)) (omega (arith, some_held, sum_at (held (λ y. 1)) views k v at)) in
         let noted : t ≤ w.tail = note 1 (SawTail t) seen in
+        let last : PutLast n t value (log v) = put_last n (log v) w met t value seen there small room w' sets in
         let line : line_of n w' ≡ line_of n w ++ (t, value) ∷ [] = pushed_line n t value w w' part.fine noted there small room sets in
         let weight : (f : ℕ → ℕ) → line_weight n w' f ≡ line_weight n w f + f value = λ f. ap (weigh (λ e. f e.1)) line ∙ weigh_push (λ e. f e.1) (line_of n w) (t, value) in (
           (
@@ -94,7 +89,7 @@ module _ (V : Type 0) (n : ℕ) (log : V → List RingEvent) (held : (ℕ → �
             owned_moves held (λ f. line_weight n w f + others f) (λ f. line_weight n w' f + others f) n views k v u at (λ f. omega (arith, weight f, gives f)) owned,
             pushed_later n t value w w' part.fine noted there small room sets,
           ),
-          record { before = w; after = w'; met = met; tail = (tail_at n w t part.fine noted there).0; sets = sets; line = line },
+          last,
           line,
         )
 
@@ -112,7 +107,7 @@ module _ (V : Type 0) (n : ℕ) (log : V → List RingEvent) (held : (ℕ → �
     took w' u found sets grown gains =
         let value : ℕ = x % n in
         let next : SetsHead n w w' (w.head + 1) = record { head = sets.head ∙ ap (λ (m : ℕ). m + 1) (sym found); tail = sets.tail; entries = sets.entries } in
-        let there = may_take n h x w found full (note 0 (SawEntry h x) looked_at) in
+        let there = first_there n (log v) w met h x full looked_at found in
         let line : line_of n w ≡ (h, value) ∷ line_of n w' = popped_line n w w' part.fine there.1 next ∙ ap₂ (λ (p y : ℕ). (p, y % n) ∷ line_of n w') found there.0 in
         let weight : (f : ℕ → ℕ) → line_weight n w f ≡ f value + line_weight n w' f = λ f. ap (weigh (λ e. f e.1)) line in (
           (
@@ -121,7 +116,7 @@ module _ (V : Type 0) (n : ℕ) (log : V → List RingEvent) (held : (ℕ → �
             owned_moves held (λ f. line_weight n w f + others f) (λ f. line_weight n w' f + others f) n views k v u at (λ f. omega (arith, weight f, gains f)) owned,
             popped_later n w w' part.fine there.1 next,
           ),
-          record { before = w; after = w'; met = met; head = found; sets = sets; line = line },
+          took_first n (log v) w met h x full looked_at found w' sets,
           line,
         )
 
@@ -131,22 +126,18 @@ module _ (V : Type 0) (n : ℕ) (log : V → List RingEvent) (held : (ℕ → �
 
   -- ---- a tail exchange, where the place was seen to be filled
 
-  pub filled_above : (t : ℕ) → ShowsFilled n t (log v) → t < logical_tail n w
-  filled_above t shown =
-      ⊎_elim
-      (λ p. note 0 (Pushed t p.0) p.1)
-      (λ p. let noted : EntryNoted n w t p.0 = note 0 (SawEntry t p.0) p.1 in noted.above p.2)
-      shown
+  above : (t : ℕ) → ShowsFilled n t (log v) → t < logical_tail n w
+  above = filled_above n (log v) w met
 
   module _ (t : ℕ) (shown : ShowsFilled n t (log v)) where
     pub helped : (w' : Words) (u : V) → w.tail ≡ t → SetsTail n w w' (t + 1) → log u ≡ SawTail (t + 1) ∷ log v → ((f : ℕ → ℕ) → held f u ≡ held f v) → RingAfter w' u × (line_of n w' ≡ line_of n w)
     helped w' u found sets grown same =
         let next : SetsTail n w w' (w.tail + 1) = record { head = sets.head; tail = sets.tail ∙ ap (λ (m : ℕ). m + 1) (sym found); entries = sets.entries } in
-        let full = may_help n t w found (filled_above t shown) in
+        let full = may_help n t w found (above t shown) in
         let line : line_of n w' ≡ line_of n w = helped_line n w w' part.fine full next in
         let weight : (f : ℕ → ℕ) → line_weight n w' f ≡ line_weight n w f = λ f. ap (weigh (λ e. f e.1)) line in (
           (
-            part_helps n log w views k v at part w' u t (filled_above t shown) found grown next,
+            part_helps n log w views k v at part w' u t (above t shown) found grown next,
             omega (arith, worn, helped_tail n w w' part.fine full next),
             owned_moves held (λ f. line_weight n w f + others f) (λ f. line_weight n w' f + others f) n views k v u at (λ f. omega (arith, weight f, same f)) owned,
             helped_later n w w' part.fine full next,
@@ -156,4 +147,4 @@ module _ (V : Type 0) (n : ℕ) (log : V → List RingEvent) (held : (ℕ → �
 
     -- another tail than the place is past it
     pub past : w.tail ≢ t → t < w.tail
-    past other = ⊎_elim (λ is. omega (arith, is, other, filled_above t shown)) (λ is. omega (arith, is, other, filled_above t shown)) (tail_cases n w)
+    past other = ⊎_elim (λ is. omega (arith, is, other, above t shown)) (λ is. omega (arith, is, other, above t shown)) (tail_cases n w)

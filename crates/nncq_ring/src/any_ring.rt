@@ -34,6 +34,9 @@ pub trait RingSteps {
     /// The value may be put.
     ghost may_put: { Self → ℕ → View → Type 0 };
 
+    /// The first of the line may be taken.
+    ghost may_take: { Self → View → Type 0 };
+
     fn slot_count(&self) -> u32
         ensures { (result ≡ slots self.now) × (1 ≤ result) };
 
@@ -86,6 +89,7 @@ pub trait RingSteps {
     fn take(&self, seat: &mut Self::Seat, place: u64, entry: u64) -> u64
         requires own { belongs seat.old self.now }
         requires most { place ≤ 2 ^ 62 }
+        requires may { may_take self.now (knows seat.old) }
         requires full { entry / slots self.now ≡ place / slots self.now }
         requires looked { get_elem? (events self.now (knows seat.old)) 0
             ≡ some (SawEntry place entry) }
@@ -114,4 +118,7 @@ pub trait RingSteps {
 
     ghost looks_keep: { (ring : Self) (e : RingEvent) (value : ℕ) (v u : View) → IsLook e
         → steps ring e v u → may_put ring value v → may_put ring value u };
+
+    ghost looks_keep_take: { (ring : Self) (e : RingEvent) (v u : View) → IsLook e
+        → steps ring e v u → may_take ring v → may_take ring u };
 }

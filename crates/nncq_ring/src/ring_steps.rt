@@ -26,6 +26,8 @@ impl RingSteps for Ring {
 
     ghost may_put = { λ r x v. Holds held_by x v };
 
+    ghost may_take = { λ r v. Unit {0} };
+
     fn slot_count(&self) -> u32 {
         self.size
     }
@@ -57,4 +59,6 @@ impl RingSteps for Ring {
     ghost logs = { λ r e v u is. does_logs e v u is };
 
     ghost looks_keep = { λ r e x v u look is held. look_keeps e x v u look is held };
+
+    ghost looks_keep_take = { λ r e v u look is may. may };
 }

@@ -90,9 +90,10 @@ pub fn push_turn<T: RingSteps>(ring: &T, seat: &mut T::Seat, v: u32) -> PushTurn
     }
 }
 
-/// Tries once to take the first of the line.
+/// Tries once to take the first of the line, which the seat may take.
 pub fn pop_turn<T: RingSteps>(ring: &T, seat: &mut T::Seat) -> PopTurn
     requires own { T.belongs seat.old ring.now }
+    requires may { T.may_take ring.now (T.knows seat.old) }
     ensures own { T.belongs seat.new ring.now }
     ensures got { (place value : ℕ) → result ≡ PopTurn.Got place value
         → Tells (T.steps ring.now) (T.knows seat.old) (T.knows seat.new)

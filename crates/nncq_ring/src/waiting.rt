@@ -48,9 +48,10 @@ pub fn push<T: RingSteps, R: Wait>(ring: &T, rt: &R, seat: &mut T::Seat, v: u32)
     unreachable!()
 }
 
-/// Takes the first of the line.
+/// Takes the first of the line, which the seat may take.
 pub fn pop<T: RingSteps, R: Wait>(ring: &T, rt: &R, seat: &mut T::Seat) -> PopEnd
     requires own { T.belongs seat.old ring.now }
+    requires may { T.may_take ring.now (T.knows seat.old) }
     ensures own { T.belongs seat.new ring.now }
     ensures got { (place value : ℕ) → result ≡ PopEnd.Got place value
         → AfterLooks (T.steps ring.now) (T.knows seat.old)

@@ -20,4 +20,6 @@ pub use plain::Plain;
 pub use schedule::{answered_steps, hung_up_steps};
 
 #[cfg(test)]
+mod plain_tests;
+#[cfg(test)]
 mod tests;

@@ -1,9 +1,13 @@
+ghost use Rattle.plain_fabric.specs.Laws.{HasOnePair};
+
 use super::*;
 use std::alloc::{AllocError, Global};
 use std::test::*;
 use unit_model::{Bytes, Core, Looks, Shape, Step, run_core, step_line};
 
-fn plain() -> Shape {
+pub(crate) fn plain() -> Shape
+    ensures { HasOnePair result }
+{
     Shape {
         items: 8,
         back_items: 8,
@@ -16,7 +20,7 @@ fn plain() -> Shape {
 }
 
 // One request of which the client hung up, and one that is answered.
-fn two_requests() -> &'static [u8] {
+pub(crate) fn two_requests() -> &'static [u8] {
     b"draw 0 1
 claim 0 0 0
 getitem 0 0 0 8
@@ -53,7 +57,7 @@ giveitem 0 1 0 16
 }
 
 // The lines of the steps, behind those that are there.
-fn tell(alloc: Global, steps: &[Step], text: &mut Bytes) -> Result<(), AllocError> {
+pub(crate) fn tell(alloc: Global, steps: &[Step], text: &mut Bytes) -> Result<(), AllocError> {
     for step in steps {
         step_line(alloc, step, text)?;
     }

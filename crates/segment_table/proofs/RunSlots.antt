@@ -3,16 +3,15 @@ use Rattle.std.proofs.Common.{ℕ, ◌≡◌, ◌+◌, ◌/◌, ◌<◌, ◌≤�
 use Rattle.std.specs.List.{range_with_len}
 use Rattle.std.specs.Prelude.{Option}
 use Rattle.atomic_table.specs.Table.{Me}
-use Rattle.carried_slots.specs.Carried.{content, numbers, IsDistinct}
+use Rattle.carried_slots.specs.Carried.{IsDistinct}
 use Rattle.carried_slots.specs.EmptySlots.{empty_weight, full_slots}
 use Rattle.carried_slots.specs.RunLaws.{AreApart}
 use Rattle.carried_slots.specs.RunSlots.{HasEmpty, HasFull, HasNone, SameElsewhere}
-use Rattle.carried_slots.proofs.EmptySlots.{full_stay, same_known, empty_known, known_empty, parts_weigh}
-use Rattle.carried_slots.proofs.Lookups.{none_content}
-use Rattle.carried_slots.proofs.RunLists.{in_range, out_of_range}
+use Rattle.carried_slots.proofs.EmptyRuns.{run_released}
+use Rattle.carried_slots.proofs.EmptySlots.{full_stay, known_empty}
 use Rattle.carried_slots.proofs.RunMoving.{run_stays}
 use Rattle.unit_model.specs.Runs.{chunks_for}
-use Rattle.unit_model.specs.Weights.{weigh, is_number, times}
+use Rattle.unit_model.specs.Weights.{weigh, is_number}
 use Rattle.chunk_map.specs.Gains.{Steps, given_back, with_events}
 use Rattle.chunk_map.specs.declared.view.MapEvent.{MapEvent}
 use Rattle.chunk_map.specs.declared.view.MapEvent.TheVariants.{SawOpen, SawWord, Gained, Missed, Released, OpenedTo, FoundOpen}
@@ -38,55 +37,17 @@ module _ {T : Type 0} where
   pub steps_full : (me me' : Me (Option T) MapView) → Steps did me me' → full_slots me'.1 ≡ full_slots me.1
   steps_full me me' steps = ap (λ (m : Me (Option T) MapView). full_slots m.1) steps.1 ∙ events_full steps.0 me
 
-  -- a run was gained
-  pub run_claimed : (first n : ℕ) (c c' : List (ℕ × Option T)) → IsDistinct c → IsDistinct c' → full_slots c' ≡ full_slots c
-      → ((f : ℕ → ℕ) → empty_weight f c' ≡ weigh f (range_with_len first n) + empty_weight f c) → HasNone first n c × HasEmpty first n c' × SameElsewhere first n c c'
-  run_claimed first n c c' once once' full gained = (
-    λ i lt. none_content c (first + i) (omega (
-      arith,
-      parts_weigh (is_number (first + i)) c,
-      parts_weigh (is_number (first + i)) c',
-      ap (λ l. times (first + i) (numbers l)) full,
-      gained (is_number (first + i)),
-      in_range first n i lt,
-      once' (first + i),
-    )),
-    λ i lt. empty_known (first + i) c' once' (omega (arith, gained (is_number (first + i)), in_range first n i lt)),
-    λ k out. same_known k c c' once once' full (omega (arith, gained (is_number k), out_of_range first n k out)),
-  )
-
-  -- nothing was gained
-  pub nothing_claimed : (c c' : List (ℕ × Option T)) → IsDistinct c → IsDistinct c' → full_slots c' ≡ full_slots c
-      → ((f : ℕ → ℕ) → empty_weight f c' ≡ empty_weight f c) → (k : ℕ) → content c' k ≡ content c k
-  nothing_claimed c c' once once' full same k = same_known k c c' once once' full (same (is_number k))
-
-  -- a run was given back
-  pub run_released : (first n : ℕ) (c c' : List (ℕ × Option T)) → IsDistinct c → IsDistinct c' → full_slots c' ≡ full_slots c
-      → ((f : ℕ → ℕ) → weigh f (range_with_len first n) + empty_weight f c' ≡ empty_weight f c) → HasNone first n c' × SameElsewhere first n c c'
-  run_released first n c c' once once' full given = (
-    λ i lt. none_content c' (first + i) (omega (
-      arith,
-      parts_weigh (is_number (first + i)) c,
-      parts_weigh (is_number (first + i)) c',
-      ap (λ l. times (first + i) (numbers l)) full,
-      given (is_number (first + i)),
-      in_range first n i lt,
-      once (first + i),
-    )),
-    λ k out. same_known k c c' once once' full (omega (arith, given (is_number k), out_of_range first n k out)),
-  )
-
-  pub given_back_run : (first n : ℕ) (me me' : Me (Option T) MapView) → IsDistinct me.1 → IsDistinct me'.1 → me' ≡ given_back did first n me
+  pub given_back_run : (first n : ℕ) (me me' : Me (Option T) MapView) → IsDistinct me.1 → me' ≡ given_back did first n me
       → HasEmpty first n me.1 → HasNone first n me'.1 × SameElsewhere first n me.1 me'.1
-  given_back_run first n me me' once once' is empty =
+  given_back_run first n me me' once is empty =
       let V : Type 0 = Me (Option T) MapView in
       let steps : Steps did me (given_back did first n me) = steps_back V did first n me in
       let full : full_slots me'.1 ≡ full_slots me.1 = ap (λ (m : V). full_slots m.1) is ∙ steps_full me (given_back did first n me) steps in
       let weighs : (ℕ → ℕ) → V → ℕ = λ f m. empty_weight f m.1 in
       let given : (f : ℕ → ℕ) → weigh f (range_with_len first n) + empty_weight f me'.1 ≡ empty_weight f me.1 = λ f.
       ap (λ (m : V). weigh f (range_with_len first n) + empty_weight f m.1) is
-      ∙ back_weigh V did weighs (λ h chunk m. refl) (λ h chunk m mine. frees_one h chunk m.1 mine) first n me f (λ i lt. known_empty (first + i) me.1 (empty i lt)) in
-      run_released first n me.1 me'.1 once once' full given
+      ∙ back_weigh V did weighs (λ h chunk m mine. frees_one h chunk m.1 mine) first n me f (λ i lt. known_empty (first + i) me.1 (empty i lt)) in
+      run_released first n me.1 me'.1 once full (λ k. given (is_number k))
 
 -- two runs have no slot in common, whichever is named first
 pub apart_either : (first n other m : ℕ) → AreApart first n other m → AreApart other m first n

@@ -27,6 +27,8 @@ impl<T> MapSteps for SlotTable<T> {
 
     ghost weighs = { λ m f v. empty_weight f v.1 };
 
+    ghost may_take = { λ m v. Unit {0} };
+
     fn see_open(&self, seat: &mut SlotSeat<T>) -> u64 {
         self.load_open(seat)
     }
@@ -51,7 +53,9 @@ impl<T> MapSteps for SlotTable<T> {
 
     ghost misses = { λ m f chunk v. refl };
 
-    ghost gains = { λ m f chunk v. refl };
+    ghost gains = { λ m f chunk v inside. refl };
 
     ghost frees = { λ m f chunk v mine. frees_one f chunk v.1 mine };
+
+    ghost keeps_may_take = { λ m e v may. may };
 }

@@ -15,7 +15,7 @@ const RUNS: u32 = 50;
 
 const REQUESTS: u64 = 1000;
 
-const LIMIT: u64 = 8_388_608;
+pub const LIMIT: u64 = 8_388_608;
 
 const CHUNKS: u64 = 2000;
 
@@ -28,7 +28,7 @@ fn short_head() -> &'static [u8] {
     b"GET / HTTP/1.1\r\nHost: a\r\n\r\n"
 }
 
-fn chunked_head() -> &'static [u8] {
+pub fn chunked_head() -> &'static [u8] {
     b"POST / HTTP/1.1\r\nHost: a\r\nTransfer-Encoding: chunked\r\n\r\n"
 }
 
@@ -39,7 +39,7 @@ fn local(port: u16) -> Addr {
     }
 }
 
-fn reader(alloc: Global) -> Result<Reader, AllocError>
+pub fn reader(alloc: Global) -> Result<Reader, AllocError>
     ensures { IfOk result (λ r. r.ended ≡ false) }
 {
     Reader::open(alloc, local(40000), local(8080))

@@ -6,6 +6,7 @@ mod conns;
 mod grammars;
 mod heads;
 mod input;
+mod memory;
 mod records;
 mod traces;
 
@@ -27,10 +28,12 @@ enum Measurement {
     HeadBytes,
     ChunkBytes,
     ConnReads,
+    EmptyLines,
+    SmallChunks,
 }
 
 /// The word of each measurement.
-const WORDS: [(&str, Measurement); 12] = [
+const WORDS: [(&str, Measurement); 14] = [
     ("read-input", Measurement::Input),
     ("normal-path", Measurement::NormalPath),
     ("matches", Measurement::Matches),
@@ -43,6 +46,8 @@ const WORDS: [(&str, Measurement); 12] = [
     ("head-bytes", Measurement::HeadBytes),
     ("chunk-bytes", Measurement::ChunkBytes),
     ("conn-reads", Measurement::ConnReads),
+    ("empty-lines", Measurement::EmptyLines),
+    ("small-chunks", Measurement::SmallChunks),
 ];
 
 impl Measurement {
@@ -61,6 +66,8 @@ impl Measurement {
             Measurement::HeadBytes => heads::head_bytes(rt),
             Measurement::ChunkBytes => heads::chunk_bytes(rt),
             Measurement::ConnReads => conns::measure(rt),
+            Measurement::EmptyLines => memory::empty_lines(rt),
+            Measurement::SmallChunks => memory::small_chunks(rt),
         }
     }
 }

@@ -189,14 +189,15 @@ impl Wire {
 /// system's, and nothing is told of it.
 #[derive(Drop)]
 pub struct NetConn {
+    // What a read needs that asks nothing of the system stands side by side.
+    ended: bool,
+    waits: u64,
     wire: Wire,
     listener: Bytes,
     number: u64,
     from: Addr,
     to: Addr,
-    ended: bool,
     faults: u64,
-    waits: u64,
 }
 
 impl Model for NetConn {
@@ -240,6 +241,8 @@ impl NetConn {
     {
         let Spare { piece, listener } = spare;
         NetConn {
+            ended: false,
+            waits: 0,
             wire: Wire {
                 stream,
                 place,
@@ -249,9 +252,7 @@ impl NetConn {
             number,
             from,
             to,
-            ended: false,
             faults: 0,
-            waits: 0,
         }
     }
 }

@@ -23,6 +23,9 @@ const PLACES: usize = 256;
 /// How many events a look takes in at most.
 const EVENTS: usize = 512;
 
+/// How many accepts without a look it takes until the door looks around.
+const LOOK_EVERY: u8 = 4;
+
 /// Bytes that a connection reads at once.
 const PIECE: usize = 16_384;
 
@@ -64,6 +67,8 @@ pub(crate) struct Door {
     // The moves of bytes at the last ring for the workers, and at the last rest.
     rung: u64,
     rested: u64,
+    // Accepts since the last look.
+    accepts: u8,
     // The listener may have a client.
     called: bool,
     // Something was noted since the last rest, and the engine hasn't looked at its connections since.
@@ -99,6 +104,7 @@ impl Door {
             handed: 0,
             rung: 0,
             rested: 0,
+            accepts: 0,
             called: false,
             fresh: false,
         })
@@ -125,9 +131,13 @@ impl Door {
         self.called = false;
     }
 
-    /// A look at what the system has to say, which doesn't wait, and a ring for the workers where bytes moved since the last
-    /// one.
+    /// At every fourth accept since the last look: a look at what the system has to say, which doesn't wait, and a ring for the
+    /// workers where bytes moved since the last one.
     pub(crate) fn look_around(&mut self) {
+        self.accepts = self.accepts.saturating_add(1);
+        if self.accepts < LOOK_EVERY {
+            return;
+        }
         self.look(Duration::ZERO);
         let moves = self.side.moves();
         if moves != self.rung {
@@ -182,6 +192,7 @@ impl Door {
 
     // Takes in what the system has to say, and waits at most so long for it.
     fn look(&mut self, limit: Duration) {
+        self.accepts = 0;
         if self.poll.poll(&mut self.events, Some(limit)).is_err() {
             return;
         }
@@ -225,7 +236,10 @@ impl Door {
     // Where all places are taken and a client waits, marks the connection that was silent for longest, at least ten
     // seconds. At most one is marked at a time.
     fn make_room(&mut self, now: u64) {
-        if !self.called || self.places.iter().any(|flags| flags.has(FREE | TAKEN)) {
+        if !self.called || !self.silences.may_be_due(now) {
+            return;
+        }
+        if self.places.iter().any(|flags| flags.has(FREE | TAKEN)) {
             return;
         }
         let Some(place) = self.silences.longest(self.places.as_slice(), now) else {

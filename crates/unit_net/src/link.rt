@@ -15,9 +15,6 @@ use std::time;
 use std::time::Duration;
 use unit_io::{Accepted, Clock, Link};
 
-/// How many accepts it takes until the link looks around.
-const LOOK_EVERY: u8 = 4;
-
 /// Milliseconds that a link which doesn't listen rests.
 const CLOSED_REST: u64 = 20;
 
@@ -30,7 +27,6 @@ pub struct NetLink<K: time::Clock + Drop> {
     door: Option<Door>,
     clock: SystemClock<K>,
     left: Option<u32>,
-    calls: u8,
     ended: bool,
     idle: bool,
     faults: u64,
@@ -66,7 +62,6 @@ impl<K: time::Clock + Drop> NetLink<K> {
             door: Door::open(rt, port).ok(),
             clock: SystemClock::open(*rt),
             left: accept,
-            calls: 0,
             ended: false,
             idle: false,
             faults: 0,
@@ -116,18 +111,15 @@ impl<K: time::Clock + Drop> NetLink<K> {
         }
     }
 
-    // What an accept meets; every fourth one looks around before.
+    // What an accept meets.
     fn next(&mut self) -> Met
         ensures kept { self.new ≡ self.old }
         ensures fresh { (c : NetConn) → result ≡ Met.Conn c → c.faults ≡ 0 }
     {
-        self.calls = self.calls.wrapping_add(1) % LOOK_EVERY;
         let Some(door) = &mut self.door else {
             return Met::Failed;
         };
-        if self.calls == 0 {
-            door.look_around();
-        }
+        door.look_around();
         door.next()
     }
 }

@@ -17,6 +17,8 @@ const LOOK_EVERY: u64 = 250;
 pub(crate) struct Silences {
     since: Vec<u64>,
     looked: u64,
+    // The least of them at the last look.
+    first: u64,
 }
 
 impl Silences {
@@ -27,6 +29,7 @@ impl Silences {
         Ok(Silences {
             since: vec![in alloc; 0u64; places]?,
             looked: 0,
+            first: 0,
         })
     }
 
@@ -36,12 +39,20 @@ impl Silences {
             return;
         }
         self.looked = now;
+        let mut first = now;
         for (since, flags) in self.since.iter_mut().zip(places) {
             if !is_silent(flags) {
                 *since = now;
                 flags.lower(MOVED);
             }
+            first = first.min(*since);
         }
+        self.first = first;
+    }
+
+    /// Whether a connection may have been silent for long enough; it asks no place.
+    pub(crate) fn may_be_due(&self, now: u64) -> bool {
+        now.saturating_sub(self.first) >= SILENCE
     }
 
     /// The place that was silent for longest, if that is long enough.

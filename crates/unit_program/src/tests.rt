@@ -2,6 +2,8 @@
 
 mod check;
 mod exchange;
+mod load;
+mod trace;
 
 use crate::handlers::ProgramHandlers;
 use std::alloc::AllocError;

@@ -9,10 +9,12 @@ use Rattle.unit_io.specs.declared.stop.Stop.TheVariants as stop
 use Rattle.unit_io.specs.Status.{IsReadStop, input_limit, status_in, status_of}
 use Rattle.unit_io.specs.Told.{Adds, AddsFront}
 use Rattle.unit_top.specs.Check.{IsCheckRead, check_outcome}
-use Rattle.unit_top.specs.Command.{Command, Once, Exchange, Check, command_of, is_listed}
-use Rattle.unit_top.specs.Ends.{EndsAs, IsEnd, IsInput, IsPlace, IsStatus, outcome_of}
+use Rattle.unit_types.specs.Numeral.{plain_decimal_within}
+use Rattle.unit_top.specs.Command.{Command, Once, Exchange, Trace, Check, Load, command_of, is_listed, load_by, load_command, load_limit}
+use Rattle.unit_top.specs.Ends.{EndsAs, IsEnd, IsInput, IsPlace, IsStatus, line_of_status, outcome_of}
 use Rattle.unit_top.specs.Exchange.{exchange_outcome}
 use Rattle.unit_top.specs.Outcome.{Outcome, Refused, Written, once_outcome, output_in}
+use Rattle.unit_top.specs.Trace.{trace_outcome}
 
 pub is_status : {T : Type 0} (r : Result T Stop) → IsStatus (status_in r)
 is_status (Ok x) = inl refl
@@ -169,11 +171,24 @@ command_ends reply_of names asked own left before after status result same is en
     (λ told. subst (λ (n : ℕ). EndsAs (outcome_of reply_of names own input) n before after) (sym same) (ends input told))
 
 -- the place with which the input is refused
-pub command_place : (reply_of : List ℕ → Request → Reply) (names : List (List ℕ)) (asked : Option Command) (own : Command) (left : Option (List ℕ)) (status result place : ℕ)
+command_place : (reply_of : List ℕ → Request → Reply) (names : List (List ℕ)) (asked : Option Command) (own : Command) (left : Option (List ℕ)) (status result place : ℕ)
     → result ≡ status → asked ≡ Some own → (status ≡ 6 → IsPlace reply_of names own left place)
     → result ≡ 6 → (command : Command) → asked ≡ Some command → IsPlace reply_of names command left place
 command_place reply_of names asked own left status result place same is at six command other =
     subst (λ (d : Command). IsPlace reply_of names d left place) (one_command asked own command is other) (at (sym same ∙ six))
+
+-- its line on `err`, and the place that it tells
+pub command_line : (reply_of : List ℕ → Request → Reply) (names : List (List ℕ)) (asked : Option Command) (own : Command) (left before after : Option (List ℕ)) (status result place : ℕ)
+    {Quiet : Type 0} → result ≡ status → asked ≡ Some own → (Quiet → Adds before after (line_of_status status place)) → AddsFront before after (line_of_status status place)
+    → (status ≡ 6 → IsPlace reply_of names own left place)
+    → (told : ℕ) × (Quiet → Adds before after (line_of_status result told)) × AddsFront before after (line_of_status result told)
+    × (result ≡ 6 → (command : Command) → asked ≡ Some command → IsPlace reply_of names command left told)
+command_line reply_of names asked own left before after status result place same is line front at = (
+  place,
+  λ quiet. subst (λ (n : ℕ). Adds before after (line_of_status n place)) (sym same) (line quiet),
+  subst (λ (n : ℕ). AddsFront before after (line_of_status n place)) (sym same) front,
+  command_place reply_of names asked own left status result place same is at,
+)
 
 pub once_place : (reply_of : List ℕ → Request → Reply) (names : List (List ℕ)) (handler : List ℕ) (left before after : Option (List ℕ)) (status place : ℕ)
     → ((input : List ℕ) → left ≡ Some input → EndsAs (once_outcome reply_of handler input) status before after)
@@ -188,12 +203,19 @@ once_place reply_of names handler left before after status place ends limit six 
 not_exchange : (handler : List ℕ) → Exchange ≡ Once handler → ⊥
 not_exchange handler e = cc e
 
+not_trace : (handler : List ℕ) → Trace ≡ Once handler → ⊥
+not_trace handler e = cc e
+
 not_check : (handler : List ℕ) → Check ≡ Once handler → ⊥
 not_check handler e = cc e
 
 pub exchange_place : (reply_of : List ℕ → Request → Reply) (names : List (List ℕ)) (left : Option (List ℕ)) (place : ℕ)
     → ((input : List ℕ) → left ≡ Some input → exchange_outcome reply_of names input ≡ Refused place) → IsPlace reply_of names Exchange left place
 exchange_place reply_of names left place refused = record { told = refused; once = λ h e. absurd (not_exchange h e) }
+
+pub trace_place : (reply_of : List ℕ → Request → Reply) (names : List (List ℕ)) (left : Option (List ℕ)) (place : ℕ)
+    → ((input : List ℕ) → left ≡ Some input → trace_outcome reply_of names input ≡ Refused place) → IsPlace reply_of names Trace left place
+trace_place reply_of names left place refused = record { told = refused; once = λ h e. absurd (not_trace h e) }
 
 pub check_place : (reply_of : List ℕ → Request → Reply) (names : List (List ℕ)) (left : Option (List ℕ)) (place : ℕ)
     → ((trace : List ℕ) → left ≡ Some trace → check_outcome trace ≡ Refused place) → IsPlace reply_of names Check left place
@@ -202,17 +224,32 @@ check_place reply_of names left place refused = record { told = refused; once = 
 -- ---- a handler that `once` names is there
 
 pub asks_listed : (names words : List (List ℕ)) (handler : List ℕ) → command_of names words ≡ Some (Once handler) → is_listed names handler ≡ true
+unfolding load_command
 asks_listed names [] handler is = absurd (cc is)
-asks_listed names (word ∷ []) handler is = by (bytes_eq word (codes "exchange")) (bytes_eq word (codes "check")) is
+asks_listed names (word ∷ []) handler is = by (bytes_eq word (codes "exchange")) (bytes_eq word (codes "trace")) (bytes_eq word (codes "check")) is
   where
-    by : (exchange check : Bool) → (if exchange then Some Exchange else if check then Some Check else None) ≡ Some (Once handler) → is_listed names handler ≡ true
-    by true check is = absurd (cc is)
-    by false true is = absurd (cc is)
-    by false false is = absurd (cc is)
+    by : (exchange trace check : Bool) → (if exchange then Some Exchange else if trace then Some Trace else if check then Some Check else None) ≡ Some (Once handler)
+        → is_listed names handler ≡ true
+    by true trace check is = absurd (cc is)
+    by false true check is = absurd (cc is)
+    by false false true is = absurd (cc is)
+    by false false false is = absurd (cc is)
 asks_listed names (word ∷ other ∷ []) handler is = by (bytes_eq word (codes "once")) (is_listed names other) refl is
   where
     by : (once listed : Bool) → is_listed names other ≡ listed → (if once && listed then Some (Once other) else None) ≡ Some (Once handler) → is_listed names handler ≡ true
     by true true there is = let same : other ≡ handler = cc is in subst (λ (name : List ℕ). is_listed names name ≡ true) same there
     by true false there is = absurd (cc is)
     by false listed there is = absurd (cc is)
-asks_listed names (a ∷ b ∷ c ∷ ds) handler is = absurd (cc is)
+asks_listed names (word ∷ requests ∷ seed ∷ []) handler is =
+    by (bytes_eq word (codes "load")) (plain_decimal_within load_limit requests) (plain_decimal_within 18446744073709551615 seed) is
+  where
+    by_number : (some : Bool) (n state : ℕ) → (if some then Some (Load n state) else None) ≡ Some (Once handler) → is_listed names handler ≡ true
+    by_number true n state is = absurd (cc is)
+    by_number false n state is = absurd (cc is)
+
+    by : (load : Bool) (n state : Option ℕ) → (if load then load_by n state else None) ≡ Some (Once handler) → is_listed names handler ≡ true
+    by false n state is = absurd (cc is)
+    by true None state is = absurd (cc is)
+    by true (Some n) None is = absurd (cc is)
+    by true (Some n) (Some state) is = by_number (nat_le 1 n) n state is
+asks_listed names (a ∷ b ∷ c ∷ d ∷ es) handler is = absurd (cc is)

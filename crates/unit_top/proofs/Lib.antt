@@ -1,6 +1,9 @@
 mod CheckLemmas
 mod ConnectionLemmas
 mod EndLemmas
-mod ExchangeLemmas
+mod LegalLemmas
+mod LoadLemmas
 mod OnceLemmas
+mod PostingLemmas
+mod ScriptLemmas
 mod TextLemmas

@@ -25,3 +25,9 @@ numbers_spaced n (m ∷ ms) = ap (λ (x : List ℕ). (32 ∷ decimal n) ++ x) (n
 
 pub long_line_told : (name : List ℕ) (n : ℕ) (ns : List ℕ) → line name (n ∷ ns) ≡ (name ++ spaced n ns) ++ (10 ∷ [])
 long_line_told name n ns = ap (λ (x : List ℕ). (name ++ x) ++ (10 ∷ [])) (numbers_spaced n ns)
+
+-- a line of one number in front of more
+pub line_before : (name : List ℕ) (n : ℕ) (rest : List ℕ) → line name (n ∷ []) ++ rest ≡ name ++ (32 ∷ (decimal n ++ (10 ∷ rest)))
+line_before name n rest =
+    ap (λ (text : List ℕ). text ++ rest) (line_told name (n ∷ [])) ∙ append_assoc name (told (n ∷ []) (10 ∷ [])) rest
+    ∙ ap (λ (text : List ℕ). name ++ (32 ∷ text)) (append_assoc (decimal n) (10 ∷ []) rest)

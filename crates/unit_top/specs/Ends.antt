@@ -7,9 +7,11 @@ use Rattle.unit_io.specs.Causes.{Rose}
 use Rattle.unit_io.specs.Status.{input_limit, line_of}
 use Rattle.unit_io.specs.Told.{Adds, AddsFront}
 use Rattle.unit_top.specs.Check.{check_outcome}
-use Rattle.unit_top.specs.Command.{Command, Once, Exchange, Check}
+use Rattle.unit_top.specs.Command.{Command, Once, Exchange, Trace, Check, Load}
 use Rattle.unit_top.specs.Exchange.{exchange_outcome}
+use Rattle.unit_top.specs.Load.{load_of}
 use Rattle.unit_top.specs.Outcome.{Outcome, Refused, Written, once_outcome, output_in}
+use Rattle.unit_top.specs.Trace.{trace_outcome}
 
 -- the statuses: all done, a faulty command line, a source that failed, a sink that failed, no memory, a faulty input, an
 -- illegal trace
@@ -21,17 +23,21 @@ IsStatus status =
 abbrev pub IsSilent : ℕ → Type 0
 IsSilent status = (status ≡ 2) ⊎ ((status ≡ 3) ⊎ (status ≡ 6))
 
--- the bytes that a command works on: those that its source tells
+-- the bytes that a command works on: those that its source tells, and none of `load`
 abbrev pub IsInput : Command → Option (List ℕ) → List ℕ → Type 0
 IsInput (Once handler) left input = left ≡ Some input
 IsInput Exchange left input = left ≡ Some input
+IsInput Trace left input = left ≡ Some input
 IsInput Check left input = left ≡ Some input
+IsInput (Load requests seed) left input = input ≡ []
 
 -- what a command makes of these bytes, where these are the names of the handlers
 abbrev pub outcome_of : (List ℕ → Request → Reply) → List (List ℕ) → Command → List ℕ → Outcome
 outcome_of reply_of names (Once handler) input = once_outcome reply_of handler input
 outcome_of reply_of names Exchange input = exchange_outcome reply_of names input
+outcome_of reply_of names Trace input = trace_outcome reply_of names input
 outcome_of reply_of names Check input = check_outcome input
+outcome_of reply_of names (Load requests seed) input = Written (load_of reply_of names requests seed) 0
 
 -- the status of each outcome; in its place a fault of the source, where the outcome is written a fault of the sink, or want of
 -- memory may come

@@ -1,25 +1,22 @@
 -- What each frame of a script gets, and what the script makes of the documents.
-use Rattle.std.specs.Prelude.{ℕ, nat_lt, true, List, [], ◌∷◌, ◌++◌, length, if◌then◌else◌, Option, Some, None}
+use Rattle.std.specs.Prelude.{ℕ, true, List, [], ◌∷◌, ◌++◌}
 use Rattle.std.specs.Option.{unwrap_or}
 use Rattle.serde_json.specs.Data.{Data}
 use Rattle.unit_types.specs.declared.message.Reply.{Reply}
 use Rattle.unit_types.specs.declared.message.Request.{Request}
-use Rattle.unit_io.specs.Status.{input_limit}
 use Rattle.conf_book.specs.Books.{first_document, newest_document}
 use Rattle.conf_validate.specs.Configuration.{configuration_of}
 use Rattle.conf_validate.specs.Ports.{port_of}
 use Rattle.conn_machine.specs.Answers.{Connection}
-use Rattle.conn_machine.specs.Shows.{connection_of}
 use Rattle.control_api.specs.Control.{Outcome as Answered, control_reply}
-use Rattle.script_frames.specs.Frames.{Frame, Control, Connection as ToListener, HungUp, broken_at, frames_of}
+use Rattle.script_frames.specs.Frames.{Frame, Control, Connection as ToListener, HungUp, frames_of}
 use Rattle.script_frames.specs.Spelling.{counted}
-use Rattle.unit_top.specs.Connections.{client_address, listener_address, output_of}
-use Rattle.unit_top.specs.Outcome.{Outcome, Refused, Written}
+use Rattle.unit_top.specs.Connections.{connection_at, output_of}
+use Rattle.unit_top.specs.Outcome.{Outcome, script_outcome}
 
 -- a connection from 127.0.0.1:40000 to 127.0.0.1 with the listener's port, 0 where its name has none
 abbrev pub connection_to : (List ℕ → Request → Reply) → List ℕ → Connection
-connection_to reply_of listener =
-    connection_of listener client_address (listener_address (unwrap_or (port_of listener) 0)) reply_of
+connection_to reply_of listener = connection_at reply_of listener (unwrap_or (port_of listener) 0)
 
 -- what it gets for these bytes under the newest document
 abbrev pub connection_bytes : (List ℕ → Request → Reply) → List Data → List ℕ → List ℕ → List ℕ
@@ -44,12 +41,6 @@ exchange_from reply_of names documents (frame ∷ frames) =
 abbrev pub exchange_of : (List ℕ → Request → Reply) → List (List ℕ) → List ℕ → List ℕ
 exchange_of reply_of names input = exchange_from reply_of names (first_document ∷ []) (frames_of input)
 
--- it is written where no frame is broken, and else refused with the byte where the first broken one begins
-abbrev pub frames_outcome : (List ℕ → Request → Reply) → List (List ℕ) → List ℕ → Option ℕ → Outcome
-frames_outcome reply_of names input None = Written (exchange_of reply_of names input) 0
-frames_outcome reply_of names input (Some place) = Refused place
-
--- `exchange`: too long comes before broken
+-- `exchange`
 abbrev pub exchange_outcome : (List ℕ → Request → Reply) → List (List ℕ) → List ℕ → Outcome
-exchange_outcome reply_of names input =
-    if nat_lt input_limit (length input) then Refused input_limit else frames_outcome reply_of names input (broken_at input)
+exchange_outcome reply_of names input = script_outcome (exchange_of reply_of names input) input

@@ -1,7 +1,13 @@
 pub mod Check
 pub mod Command
 pub mod Connections
+pub mod Counting
 pub mod Ends
 pub mod Exchange
+pub mod Laws
+pub mod Load
 pub mod Once
 pub mod Outcome
+pub mod Posting
+pub mod Scripts
+pub mod Trace

@@ -4,8 +4,14 @@
 mod check;
 mod command;
 mod connection;
-mod exchange;
+mod draws;
+mod fabric;
+mod frame;
+mod laws;
+mod load;
 mod once;
+mod script;
 mod top;
 
+pub use laws::traces_are_legal;
 pub use top::unit_top;

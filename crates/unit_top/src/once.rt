@@ -10,7 +10,8 @@ ghost use Rattle.unit_top.specs.Command.{is_listed};
 ghost use Rattle.unit_top.specs.Once as spec;
 ghost use Rattle.unit_types.specs.Limits.{IsShortName};
 
-use crate::connection::{client_address, connection_output, listener_address};
+use crate::connection::{Arrived, connection_output};
+use crate::fabric::{Output, open_fabric};
 use conf_tree::{Path, Tree, TreeMap, put};
 use conf_validate::{ConfFault, Current, validate};
 use std::alloc::{AllocError, Global};
@@ -114,8 +115,11 @@ pub fn once<H: Handlers>(
     ensures { IfOk result (λ out. out ≡ once_of H.reply_of name.now input) }
 {
     let conf = once_configuration(alloc, handlers.names(), name)?;
-    let listener = Bytes::copy_of(alloc, LISTENER.as_bytes())?;
-    let from = client_address();
-    let to = listener_address(PORT);
-    connection_output(alloc, handlers, listener, from, to, input, &conf)
+    let mut plain = open_fabric(alloc)?;
+    let arrived = Arrived {
+        listener: Bytes::copy_of(alloc, LISTENER.as_bytes())?,
+        port: PORT,
+        bytes: input,
+    };
+    connection_output(alloc, handlers, &mut plain, Output::Replies, arrived, &conf)
 }

@@ -4,7 +4,7 @@ use super::{Faults, NO_FAULTS, Outcome, run};
 use std::alloc::AllocError;
 
 // One request that its client left, and one that is answered.
-const TRACE: &[u8] =
+pub(super) const TRACE: &[u8] =
     b"draw 0 1\nclaim 0 0 0\ngetitem 0 0 0 8\nsetrun 0 0 0 0 0 77\nsetpart 0 0 0 0\narm 0 0 0 1\npush 0 0 0 8\nsettle 0 0 0 1\nrelease 0 0 0\npop 1 0 0 8\ngiveitem 1 0 0 16\ndraw 0 2\nclaim 0 0 0\ngetitem 0 0 1 9\nsetrun 0 0 1 0 0 77\nsetpart 0 0 1 0\narm 0 0 1 2\npush 0 0 1 9\npop 1 0 1 9\nsettle 1 0 1 2\nrelease 1 0 0\ngiveitem 1 0 1 17\nclaim 1 1 0\ngetitem 1 1 0 8\nsetrun 1 1 0 1 0 54\nsetpart 1 1 0 1\narm 1 1 0 2\npush 1 1 0 8\npop 0 1 0 8\nsettle 0 1 0 2\nrelease 0 1 0\ngiveitem 0 1 0 16\n";
 
 const LEGAL: &[u8] = b"legal 32\nchunks 1280 1280\nstreams 2 1 1 0 0 0\n";

@@ -5,7 +5,7 @@ use std::alloc::AllocError;
 use unit_types::Bytes;
 
 // A configuration that sends each request to `hello`, by its only step.
-const PUT: &[u8] =
+pub(super) const PUT: &[u8] =
     b"PUT /config HTTP/1.1\r\nHost: u\r\nContent-Length: 152\r\n\r\n{\"applications\":{\"h\":{\"executable\":\"hello\",\"type\":\"external\"}},\"listeners\":{\"*:8080\":{\"pass\":\"routes\"}},\"routes\":[{\"action\":{\"pass\":\"applications/h\"}}]}";
 
 const DELETE: &[u8] = b"DELETE /config/routes/0 HTTP/1.1\r\nHost: u\r\n\r\n";
@@ -20,7 +20,7 @@ const GREETED: &[u8] =
 const NOT_FOUND: &[u8] =
     b"84\nHTTP/1.1 404 Not Found\r\nContent-Type: text/plain\r\nContent-Length: 12\r\n\r\nError 404.\r\n";
 
-fn joined(rt: &HostRuntime, parts: &[&[u8]]) -> Result<Bytes, AllocError> {
+pub(super) fn joined(rt: &HostRuntime, parts: &[&[u8]]) -> Result<Bytes, AllocError> {
     let mut text = Bytes::of(Vec::new(rt.alloc()));
     for part in parts {
         text.append(part)?;

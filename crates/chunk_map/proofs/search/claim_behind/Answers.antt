@@ -6,7 +6,7 @@ use Rattle.unit_model.specs.Weights.{weigh}
 use Rattle.chunk_map.specs.Looks.{seen_free, may_be_free}
 use Rattle.chunk_map.specs.Runs.{AreFree, IsLowest, NoneBelow, run_chunks}
 use Rattle.chunk_map.proofs.ClaimLaws.{none_allowed, none_free, none_stays, no_run, shows_noted}
-use Rattle.chunk_map.proofs.GainLaws.{search_same, search_on, steps_on}
+use Rattle.chunk_map.proofs.GainLaws.{search_same, search_on, steps_keep, steps_on}
 use Rattle.chunk_map.proofs.search.claim_behind.Goals as goal
 
 pub loop-segment-init : goal.loop-segment-init
@@ -101,3 +101,9 @@ returns-in-Some-clause-gained g c f =
     let count : c.chunk_count-count.result ≡ chunks_for c.run_at.result.size = c.chunk_count-count.ensures.0 ∙ ap chunks_for (sym made.2) in
     let run : weigh f (range_with_len first c.chunk_count-count.result) ≡ weigh f (run_chunks c.run_at.result) = ap₂ (λ (a b : ℕ). weigh f (range_with_len a b)) (sym same) count in
     omega (arith, run, c.in-Some.ensures.gained f, c.loop-segment.invariant.3 f)
+
+pub claim_in-requires-clause-may : goal.claim_in-requires-clause-may
+claim_in-requires-clause-may g c =
+    let s = g.T.MapSteps in
+    let map = c.args.map.now in
+    steps_keep s.View (s.after map) (s.may_take map) (g.met.T.MapSteps.keeps_may_take map) (s.knows c.args.seat.now) (s.knows c.loop-segment.seat) c.loop-segment.invariant.8 c.requires.may

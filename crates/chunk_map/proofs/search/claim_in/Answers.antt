@@ -3,7 +3,7 @@ use Rattle.chunk_map.specs.declared.view.MapEvent.{MapEvent}
 use Rattle.chunk_map.specs.Gains.{SameSearch, Steps, gained, tried, more}
 use Rattle.chunk_map.specs.Looks.{seen_free, was_gained, was_looked}
 use Rattle.chunk_map.proofs.ClaimLaws.{Trying, starts_first, none_here, run_same, tried_on}
-use Rattle.chunk_map.proofs.GainLaws.{search_on, search_gained, gained_run, gained_outside, log_gained, log_tried, steps_on, steps_gained, steps_tried, tried_weigh}
+use Rattle.chunk_map.proofs.GainLaws.{search_on, search_gained, gained_run, gained_outside, log_gained, log_tried, steps_keep, steps_on, steps_gained, steps_tried, tried_weigh}
 use Rattle.chunk_map.proofs.search.claim_in.Goals as goal
 
 pub loop-first-init : goal.loop-first-init
@@ -77,7 +77,7 @@ loop-first-preserved g c =
       omega (arith, fewer, free.0),
       subst (λ (u : List MapEvent). Trying before u c.clear.new.words c.run_starts-starts.result c.args.segment c.args.count (c.in-Some.first + c.gain-gained.result + 1)) (sym view)
           (tried_on before log c.loop-first.words c.run_starts-starts.result c.args.segment c.args.count c.loop-first.from trying c.in-Some.first c.clear.new.words c.gain-gained.result fewer found.0 free found.3 c.clear.ensures.here c.clear.ensures.others),
-      (λ f. ap (s.weighs map f) became ∙ tried_weigh s.View (s.after map) (s.weighs map) (laws.gains map) (laws.frees map) (laws.misses map) place n v f ∙ c.loop-first.invariant.3 f),
+      (λ f. ap (s.weighs map f) became ∙ tried_weigh s.View (s.after map) (s.weighs map) (640 * s.segments map) (laws.gains map) (laws.frees map) (laws.misses map) place n v f (omega (arith, fewer, free.0, c.requires.segment)) ∙ c.loop-first.invariant.3 f),
       subst (Steps (s.after map) (s.knows c.args.seat.now)) (sym became) (steps_on s.View (s.after map) (s.knows c.args.seat.now) v (tried (s.after map) place n v) c.loop-first.invariant.4 (steps_tried s.View (s.after map) place n v)),
     )
 
@@ -185,10 +185,11 @@ returns-then-gained-count-clause-gained g c f =
     let log : List MapEvent = s.events map (s.knows c.loop-first.seat) in
     let laws = g.met.T.MapSteps in
     let all = c.gain-gained.ensures.all c.if-gained-count.true in
+    let free = (c.loop-first.invariant.2.marked c.in-Some.first c.in-Some.ensures.some.0).0 c.in-Some.ensures.some.2 in
     omega (
       arith,
       ap (s.weighs map f) all,
-      gained_run s.View (s.after map) (s.weighs map) (laws.gains map) (laws.frees map) (640 * c.args.segment + c.in-Some.first) c.args.count (s.knows c.loop-first.seat) f,
+      gained_run s.View (s.after map) (s.weighs map) (640 * s.segments map) (laws.gains map) (640 * c.args.segment + c.in-Some.first) c.args.count (s.knows c.loop-first.seat) f (omega (arith, free.0, c.requires.segment)),
       c.loop-first.invariant.3 f,
     )
 
@@ -208,3 +209,9 @@ returns-then-gained-count-clause-told g c =
     let v = s.knows c.loop-first.seat in
     let all = c.gain-gained.ensures.all c.if-gained-count.true in
     subst (Steps (s.after map) (s.knows c.args.seat.now)) (sym all) (steps_on s.View (s.after map) (s.knows c.args.seat.now) v (gained (s.after map) place c.args.count v) c.loop-first.invariant.4 (steps_gained s.View (s.after map) place c.args.count v))
+
+pub gain-gained-requires-clause-may : goal.gain-gained-requires-clause-may
+gain-gained-requires-clause-may g c =
+    let s = g.T.MapSteps in
+    let map = c.args.map.now in
+    steps_keep s.View (s.after map) (s.may_take map) (g.met.T.MapSteps.keeps_may_take map) (s.knows c.args.seat.now) (s.knows c.loop-first.seat) c.loop-first.invariant.4 c.requires.may

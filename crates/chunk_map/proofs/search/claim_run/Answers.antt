@@ -1,4 +1,4 @@
-use Rattle.std.proofs.Common.{ℕ, ◌≡◌, ◌+◌, ◌∷◌, ◌∙◌, ap, refl, sym, subst, arith, List}
+use Rattle.std.proofs.Common.{ℕ, ◌≡◌, ◌∷◌, ◌∙◌, ap, refl, sym, subst, arith, List}
 use Rattle.chunk_map.specs.declared.view.MapEvent.{MapEvent}
 use Rattle.chunk_map.specs.declared.view.MapEvent.TheVariants.{SawOpen}
 use Rattle.chunk_map.specs.Gains.{SameSearch}
@@ -67,3 +67,9 @@ returns-in-None-clause-held g c f =
     let s = g.T.MapSteps in
     let map = c.args.map.now in
     c.in-None.ensures.held f ∙ ap (s.weighs map f) c.see_open-opened.ensures.view ∙ g.met.T.MapSteps.looks map f c.see_open-opened.result (s.knows c.args.seat.now)
+
+pub search_among-requires-clause-may : goal.search_among-requires-clause-may
+search_among-requires-clause-may g c =
+    let s = g.T.MapSteps in
+    let map = c.args.map.now in
+    subst (s.may_take map) (sym c.see_open-opened.ensures.view) (g.met.T.MapSteps.keeps_may_take map (SawOpen c.see_open-opened.result) (s.knows c.args.seat.now) c.requires.may)

@@ -18,6 +18,6 @@ loop-left-preserved g c =
       c.free.ensures.own,
       omega (arith, now.1),
       λ i lt. subst (λ (u : s.View). 0 < s.weighs map (is_number (c.args.first + i)) u) (sym view)
-          (still_held s.View (s.after map) (s.weighs map) (laws.gains map) (laws.frees map) chunk (c.args.first + i) v (λ e. absurd (omega (arith, lt, e))) (now.2 (c.loop-left.left - 1) (omega (arith, c.loop-left-test.true))) (now.2 i (omega (arith, lt)))),
+          (still_held s.View (s.after map) (s.weighs map) (laws.frees map) chunk (c.args.first + i) v (λ e. absurd (omega (arith, lt, e))) (now.2 (c.loop-left.left - 1) (omega (arith, c.loop-left-test.true))) (now.2 i (omega (arith, lt)))),
       ap (given_back (s.after map) c.args.first (c.loop-left.left - 1)) view ∙ ap (λ (n : ℕ). given_back (s.after map) c.args.first n v) one_more ∙ now.3,
     )

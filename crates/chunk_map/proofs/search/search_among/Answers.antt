@@ -8,7 +8,7 @@ use Rattle.chunk_map.specs.Looks.{seen_free, may_be_free}
 use Rattle.chunk_map.specs.Runs.{AreFree, IsLowest, NoneBelow, run_chunks}
 use Rattle.chunk_map.proofs.Claiming.{none_then}
 use Rattle.chunk_map.proofs.ClaimLaws.{none_allowed}
-use Rattle.chunk_map.proofs.GainLaws.{search_on, steps_on}
+use Rattle.chunk_map.proofs.GainLaws.{search_on, steps_keep, steps_on}
 use Rattle.chunk_map.proofs.search.search_among.Goals as goal
 
 pub claim_in-requires-clause-open : goal.claim_in-requires-clause-open
@@ -78,3 +78,9 @@ returns-in-None-clause-gained g c = IfSome_then c.claim_behind.result c.claim_be
 
 pub returns-in-None-clause-held : goal.returns-in-None-clause-held
 returns-in-None-clause-held g c = none_then c.claim_behind.result c.claim_behind.ensures.held (λ it f. it f ∙ c.in-None.ensures.held f)
+
+pub claim_behind-requires-clause-may : goal.claim_behind-requires-clause-may
+claim_behind-requires-clause-may g c =
+    let s = g.T.MapSteps in
+    let map = c.args.map.now in
+    steps_keep s.View (s.after map) (s.may_take map) (g.met.T.MapSteps.keeps_may_take map) (s.knows c.args.seat.now) (s.knows c.claim_in.new.seat) c.claim_in.ensures.told c.requires.may

@@ -1,4 +1,5 @@
 use Rattle.conn_machine.proofs.PlainLemmas.{session_plain}
+use Rattle.conn_machine.proofs.ReceiptLemmas.{plain_receipts}
 use Rattle.conn_machine.proofs.WalkLemmas.{session_longer, lines_longer, session_tells}
 use Rattle.conn_machine.proofs.laws.laws_of_sessions.Goals as goal
 
@@ -17,3 +18,7 @@ returns-clause-count c connection confs receipts bytes ended session is = (sessi
 pub returns-clause-plain : goal.returns-clause-plain
 returns-clause-plain c connection confs conf number receipts bytes session there plainly is =
     session_plain connection confs conf number receipts bytes session there plainly is
+
+pub returns-clause-answered : goal.returns-clause-answered
+returns-clause-answered c connection confs conf number stream bytes there drawn =
+    plain_receipts c.laws_of_units.ensures.tells c.laws_of_units.ensures.unfinished connection confs conf number stream bytes there drawn

@@ -1,6 +1,6 @@
 use Rattle.fabric_rule.proofs.Contents.{kept_stay}
 use Rattle.fabric_rule.proofs.Frames.{of_fabric}
-use Rattle.fabric_rule.proofs.ListFrames.{counted_stay, in_work_stay, lists_stay, lists_there, posts_stay, records_stay, streams_stay, works_stay}
+use Rattle.fabric_rule.proofs.ListFrames.{counted_stay, in_work_stay, lists_stay, lists_there, posts_stay, records_stay, records_there, streams_stay, works_stay}
 use Rattle.fabric_rule.proofs.laws.lists_and_works_stay.Goals as goal
 
 pub returns-clause-posts : goal.returns-clause-posts
@@ -8,6 +8,9 @@ returns-clause-posts c = posts_stay
 
 pub returns-clause-records : goal.returns-clause-records
 returns-clause-records c = records_stay
+
+pub returns-clause-records_there : goal.returns-clause-records_there
+returns-clause-records_there c = records_there
 
 pub returns-clause-lists : goal.returns-clause-lists
 returns-clause-lists c = lists_stay

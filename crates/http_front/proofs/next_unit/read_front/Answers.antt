@@ -1,4 +1,4 @@
-use Rattle.std.proofs.Common.{◌≡◌, ◌∙◌, ◌+◌, ap, sym, subst, drop, take, true, false, Some, List, ℕ, IfOk, arith, length-take, length-drop}
+use Rattle.std.proofs.Common.{◌≡◌, ◌∙◌, ◌+◌, ap, sym, subst, drop, take, true, Some, List, ℕ, IfOk, arith, length-take, length-drop}
 use Rattle.http_front.specs.declared.next_unit.Told.{Told}
 use Rattle.http_front.specs.Front.{block, blank_len, front_of}
 use Rattle.unit_types.specs.Limits.{head_limit}
@@ -50,18 +50,22 @@ returns-in-None-clause-told c =
     ∙ next_unready c.args.from c.args.to c.args.bytes.now c.args.ended c.args.max_body c.behind-rest.result.now c.first_bytes.result.now
     rest c.first_bytes.ensures (sym c.in-None.is ∙ c.block_len.ensures.value)
 
-pub returns-in-Some-clause-progress : goal.returns-in-Some-clause-progress
-returns-in-Some-clause-progress c =
+pub returns-in-Some-clause-ahead : goal.returns-in-Some-clause-ahead
+returns-in-Some-clause-ahead c =
+    let bytes = c.args.bytes.now in
     let passed = c.blank_len-blank.ensures.value in
-    let rest = c.behind-rest.ensures ∙ ap (λ n. drop n c.args.bytes.now) passed in
+    let rest = c.behind-rest.ensures ∙ ap (λ n. drop n bytes) passed in
     let size = c.in-Some.size in
     let block_is = c.first_bytes-in-Some.ensures ∙ ap (take size) rest in
+    let behind_is = c.behind.ensures ∙ ap (drop size) rest in
     let front = sym (front_is c.behind-rest.result.now c.first_bytes.result.now (Some size) c.first_bytes.ensures (sym c.in-Some.is ∙ c.block_len.ensures.value)) in
-    let ahead : front_of head_limit (rest_of c.args.bytes.now) ≡ block size = ap (front_of head_limit) (sym rest) ∙ front in
+    let ahead : front_of head_limit (rest_of bytes) ≡ block size = ap (front_of head_limit) (sym rest) ∙ front in
     ok_weaker c.read_block.result _ _ (λ step tells.
-    tells_front c.args.bytes.now size c.args.max_body step.progress step.told.is_due ahead
-    (subst (λ (w : List ℕ). TellsBehind step.progress (blank_len c.args.bytes.now + size)
-    (λ ys. block_unit (has_too_many_lines w) c.args.max_body (blank_len c.args.bytes.now + size) ys false (head_of w)) step.told.is_due) block_is
-    (subst (λ (n : ℕ). TellsBehind step.progress (n + size)
-    (λ ys. block_unit (has_too_many_lines c.first_bytes-in-Some.result.now) c.args.max_body (n + size) ys false (head_of c.first_bytes-in-Some.result.now)) step.told.is_due) passed tells)))
-    c.read_block.ensures.progress
+    tells_front bytes size c.args.max_body step.ahead ahead
+    (subst (λ (w : List ℕ). TellsBehind step.ahead (blank_len bytes + size) (drop size (rest_of bytes))
+    (λ ys over. block_unit (has_too_many_lines w) c.args.max_body (blank_len bytes + size) ys over (head_of w))) block_is
+    (subst (λ (ys : List ℕ). TellsBehind step.ahead (blank_len bytes + size) ys
+    (λ ys over. block_unit (has_too_many_lines c.first_bytes-in-Some.result.now) c.args.max_body (blank_len bytes + size) ys over (head_of c.first_bytes-in-Some.result.now))) behind_is
+    (subst (λ (n : ℕ). TellsBehind step.ahead (n + size) c.behind.result.now
+    (λ ys over. block_unit (has_too_many_lines c.first_bytes-in-Some.result.now) c.args.max_body (n + size) ys over (head_of c.first_bytes-in-Some.result.now))) passed tells))))
+    c.read_block.ensures.ahead

@@ -1,10 +1,17 @@
 use Rattle.std.proofs.Common.{rules, ℕ, ◌≡◌, ◌+◌, ◌/◌, ◌%◌, ◌<◌, ◌≤◌, ◌∙◌, ap, sym, subst, inr}
 use mathlib.Core.Option.{some}
 use lib.ListN.{get_elem?}
-use Rattle.nncq_ring.specs.declared.view.RingEvent.TheVariants.{SawHead}
+use Rattle.nncq_ring.specs.declared.view.RingEvent.TheVariants.{SawEntry, SawHead}
 use Rattle.nncq_ring.specs.Turns.{IsEmpty, IsGot, IsPopLost, Tells}
 use Rattle.nncq_ring.proofs.Turning.{newest, got, empty, pop_lost_later, pop_lost_exchange}
 use Rattle.nncq_ring.proofs.turns.pop_turn.Goals as goal
+
+pub take-requires-clause-may : goal.take-requires-clause-may
+take-requires-clause-may g c =
+    let s = g.T.RingSteps in
+    let keep = g.met.T.RingSteps.looks_keep_take c.args.ring.now in
+    keep (SawEntry c.see_head-head.result c.see_entry-entry.result) (s.knows c.see_head-head.new.seat) (s.knows c.see_entry-entry.new.seat) tt c.see_entry-entry.ensures.view
+    (keep (SawHead c.see_head-head.result) (s.knows c.args.seat.now) (s.knows c.see_head-head.new.seat) tt c.see_head-head.ensures.view c.requires.may)
 
 pub returns-in-Filled-clause-got : goal.returns-in-Filled-clause-got
 returns-in-Filled-clause-got g c place value is =

@@ -1,6 +1,6 @@
 use Rattle.std.proofs.Common.{rules, refl}
 use Rattle.nncq_ring.specs.Turns.{Tells, AllLooks}
-use Rattle.nncq_ring.proofs.Looking.{pop_lost_looks, looks_on}
+use Rattle.nncq_ring.proofs.Looking.{pop_lost_looks, looks_keep, looks_on}
 use Rattle.nncq_ring.proofs.waiting.pop.Goals as goal
 
 pub loop-preserved : goal.loop-preserved
@@ -15,5 +15,6 @@ loop-preserved g c =
       able = search rules;
       ends = search rules;
       own = search rules;
+      may = looks_keep s.View (s.steps ring) (s.may_take ring) (g.met.T.RingSteps.looks_keep_take ring) v u looks c.loop.invariant.may;
       looked = looks_on s.View (s.steps ring) (s.knows c.args.seat.now) v u c.loop.invariant.looked looks;
     }

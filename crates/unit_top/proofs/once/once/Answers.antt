@@ -1,9 +1,8 @@
-use Rattle.std.proofs.Common.{◌≡◌, ◌∙◌, ℕ, List, IfOk, All, ap, sym, subst, true}
+use Rattle.std.proofs.Common.{◌≡◌, ◌∙◌, ℕ, List, IfOk, All, ap, codes, sym, subst, true}
 use Rattle.unit_types.specs.Limits.{IsShortName}
-use Rattle.conn_machine.specs.Laws.{plain_connection}
-use Rattle.conn_machine.specs.Shows.{connection_of}
 use Rattle.http_front.specs.Session as plain
 use Rattle.http_front.specs.Session.{plain_session_of}
+use Rattle.unit_top.specs.Connections.{connection_at, output_of}
 use Rattle.unit_top.proofs.OnceLemmas.{once_connection_is}
 use Rattle.unit_top.proofs.once.once.Goals as goal
 
@@ -13,7 +12,8 @@ once_configuration-requires-clause-short g c = subst (All IsShortName) (sym c.na
 pub returns : goal.returns
 returns g c =
     let reply_of = g.H.Handlers.reply_of in
+    let listener : c.in_ok-copy_of.field-0 ≡ codes "*:8080" = c.in_ok-copy_of.ensures ∙ c.as_bytes.ensures.value in
     subst (λ (x : List ℕ). IfOk c.connection_output.result (λ out. out ≡ x))
-    ((λ i. (plain_session_of (plain_connection (connection_of ((c.in_ok-listener.ensures ∙ c.as_bytes.ensures.value) i) (c.client_address-from.ensures i) (c.listener_address-to.ensures i) reply_of) (c.in_ok-conf.ensures i).1) true c.args.input).written)
+    ((λ i. output_of (connection_at reply_of (listener i) 8080) (c.in_ok-conf.ensures i).1 c.args.input)
     ∙ ap (λ (p : plain.Connection). (plain_session_of p true c.args.input).written) (once_connection_is reply_of c.args.name.now))
-    c.connection_output.ensures
+    c.connection_output.ensures.out

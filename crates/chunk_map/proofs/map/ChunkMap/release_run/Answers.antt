@@ -1,4 +1,4 @@
-use Rattle.std.proofs.Common.{ℕ, ◌+◌, ◌-◌, ◌*◌, ◌∙◌, ap, arith, refl}
+use Rattle.std.proofs.Common.{ℕ, ◌+◌, ◌-◌, ◌*◌, ◌∙◌, ap, arith}
 use Rattle.unit_model.specs.Runs.{chunks_for}
 use Rattle.unit_model.specs.Weights.{weigh}
 use Rattle.chunk_map.specs.declared.view.MapView.{MapView}
@@ -24,6 +24,6 @@ returns-clause-released c f =
     let view = c.give_back.ensures.view ∙ ap (λ (n : ℕ). given_back does first n (knows c.args.seat.now)) c.chunk_count.ensures in
     omega (
       arith,
-      back_weigh MapView does held_by (λ g chunk v. refl) (λ g chunk v mine. frees_one g chunk v.held mine) first (chunks_for c.args.run.size) (knows c.args.seat.now) f c.requires.held,
+      back_weigh MapView does held_by (λ g chunk v mine. frees_one g chunk v.held mine) first (chunks_for c.args.run.size) (knows c.args.seat.now) f c.requires.held,
       ap (λ (u : MapView). weigh f u.held) view,
     )

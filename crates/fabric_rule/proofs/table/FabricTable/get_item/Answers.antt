@@ -17,7 +17,7 @@ exchange_word-requires-clause-allowed g c =
     let table = c.args.self.now.table.shared in
     let seat = c.args.seat.now.seat in
     rw c.requires.word
-    (λ s holds homes at fits. exchanges g.H.Handlers.reply_of table.key seat.id seat.me.0 seat.me.1 s holds at c.requires.busy c.args.queue c.requires.there c.requires.fills c.args.place c.args.entry c.requires.saw c.requires.head c.requires.full)
+    (λ s holds homes at fits. exchanges g.H.Handlers.reply_of table.key seat.id seat.me.0 seat.me.1 s holds at c.requires.busy c.args.queue c.requires.there c.requires.fills c.args.place c.args.entry c.requires.saw)
 
 pub invariant_of-seat : goal.invariant_of-seat
 invariant_of-seat g c =

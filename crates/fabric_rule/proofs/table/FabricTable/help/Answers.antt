@@ -16,10 +16,9 @@ pub exchange_word-requires-clause-allowed : goal.exchange_word-requires-clause-a
 exchange_word-requires-clause-allowed g c =
     let table = c.args.self.now.table.shared in
     let seat = c.args.seat.now.seat in
-    let saw = c.requires.saw in
     let above = c.requires.above in
     rw c.requires.word
-    (λ s holds homes at fits. exchanges g.H.Handlers.reply_of table.key seat.id seat.me.0 seat.me.1 s holds at c.args.queue c.args.side c.args.place c.requires.there above.0 above.1 above.2 above.3 saw.0 saw.1)
+    (λ s holds homes at fits. exchanges g.H.Handlers.reply_of table.key seat.id seat.me.0 seat.me.1 s holds at c.args.queue c.args.side c.args.place c.requires.there above.0 above.1 above.2 above.3)
 
 pub invariant_of-seat : goal.invariant_of-seat
 invariant_of-seat g c =

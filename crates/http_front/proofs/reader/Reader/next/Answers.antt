@@ -1,31 +1,23 @@
-use Rattle.std.proofs.Common.{◌≡◌, ◌∙◌, sym, subst}
-use Rattle.http_front.specs.Kept.{Kept, HasRead, kept_answer, kept_next}
+use Rattle.std.proofs.Common.{◌≡◌, ◌∙◌, sym, subst, IfOk, OnErr}
+use Rattle.http_front.specs.Kept.{Kept, HasRead}
 use Rattle.http_front.specs.Reading.{Reading, next_answer, next_reading}
-use Rattle.http_front.proofs.KeptLemmas.{has_read_answer, has_read_next, on_ok, on_err, if_ok, step_ended, step_marked}
+use Rattle.http_front.proofs.KeptLemmas.{has_read_answer, has_read_next}
 use Rattle.http_front.proofs.reader.Reader.next.Goals as goal
 
-pub returns-clause-answer : goal.returns-clause-answer
-returns-clause-answer c =
-    let old = c.args.self.now in
-    if_ok c.take_next.result (λ answer. answer ≡ kept_answer old c.args.max_body) (λ answer. (r : Reading) → HasRead r old → answer ≡ next_answer r c.args.max_body)
-    (λ answer same r is. same ∙ has_read_answer r old c.args.max_body is) c.take_next.ensures.answer
+pub returns-then-still_waits-clause-answer : goal.returns-then-still_waits-clause-answer
+returns-then-still_waits-clause-answer c r is =
+    let waits = c.still_waits.ensures.waits c.if-still_waits.true c.args.max_body in
+    sym waits.0 ∙ has_read_answer r c.args.self.now c.args.max_body is
 
-pub returns-clause-ok : goal.returns-clause-ok
-returns-clause-ok c =
-    let old = c.args.self.now in
-    let new = c.take_next.new.self in
-    on_ok c.take_next.result (new ≡ kept_next old c.args.max_body) ((r : Reading) → HasRead r old → HasRead (next_reading r c.args.max_body) new)
-    (λ same r is. subst (λ (k : Kept). HasRead (next_reading r c.args.max_body) k) (sym same) (has_read_next r old c.args.max_body is)) c.take_next.ensures.ok
+pub returns-then-still_waits-clause-ok : goal.returns-then-still_waits-clause-ok
+returns-then-still_waits-clause-ok c r is =
+    let waits = c.still_waits.ensures.waits c.if-still_waits.true c.args.max_body in
+    subst (λ (k : Kept). HasRead (next_reading r c.args.max_body) k) (waits.1 ∙ sym c.still_waits.ensures.same) (has_read_next r c.args.self.now c.args.max_body is)
 
-pub returns-clause-err : goal.returns-clause-err
-returns-clause-err c =
-    let old = c.args.self.now in
-    let new = c.take_next.new.self in
-    on_err c.take_next.result (new ≡ old) ((r : Reading) → HasRead r old → HasRead r new)
-    (λ same r is. subst (λ (k : Kept). HasRead r k) (sym same) is) c.take_next.ensures.err
+pub returns-else-still_waits-clause-answer : goal.returns-else-still_waits-clause-answer
+returns-else-still_waits-clause-answer c =
+    subst (λ (k : Kept). IfOk c.read.result (λ answer. (r : Reading) → HasRead r k → answer ≡ next_answer r c.args.max_body)) c.still_waits.ensures.same c.read.ensures.answer
 
-pub returns-clause-ended : goal.returns-clause-ended
-returns-clause-ended c = step_ended c.take_next.result c.args.self.now c.take_next.new.self c.args.max_body c.take_next.ensures.ok c.take_next.ensures.err
-
-pub returns-clause-marked : goal.returns-clause-marked
-returns-clause-marked c = step_marked c.take_next.result c.args.self.now c.take_next.new.self c.args.max_body c.take_next.ensures.ok c.take_next.ensures.err
+pub returns-else-still_waits-clause-err : goal.returns-else-still_waits-clause-err
+returns-else-still_waits-clause-err c =
+    subst (λ (k : Kept). OnErr c.read.result ((r : Reading) → HasRead r k → HasRead r c.read.new.self)) c.still_waits.ensures.same c.read.ensures.err

@@ -4,8 +4,9 @@ use Rattle.atomic_table.specs.Table.{Me}
 use Rattle.carried_slots.specs.Carried.{content}
 use Rattle.carried_slots.specs.EmptySlots.{empty_weight, full_slots}
 use Rattle.carried_slots.specs.RunSlots.{HasEmpty, HasNone, SameElsewhere}
+use Rattle.carried_slots.proofs.EmptyRuns.{run_claimed, nothing_claimed}
 use Rattle.unit_model.specs.Runs.{chunks_for}
-use Rattle.unit_model.specs.Weights.{weigh}
+use Rattle.unit_model.specs.Weights.{weigh, is_number}
 use Rattle.chunk_map.specs.Gains.{SameSearch}
 use Rattle.chunk_map.specs.Looks.{Begins}
 use Rattle.chunk_map.specs.Runs.{run_chunks}
@@ -14,7 +15,7 @@ use Rattle.chunk_map.specs.declared.view.MapEvent.TheVariants.{SawOpen}
 use Rattle.chunk_map.specs.declared.view.MapView.{MapView}
 use Rattle.chunk_map.proofs.Claiming.{begins, full_so, run_so}
 use Rattle.segment_table.specs.Owning.{first_of}
-use Rattle.segment_table.proofs.RunSlots.{steps_full, run_claimed, nothing_claimed}
+use Rattle.segment_table.proofs.RunSlots.{steps_full}
 use Rattle.segment_table.proofs.table.SlotTable.claim.Goals as goal
 
 pub claim_among-requires-clause-begins : goal.claim_among-requires-clause-begins
@@ -42,7 +43,7 @@ returns-clause-slots g c =
     run_so c.claim_among.result
     (λ run. (f : ℕ → ℕ) → empty_weight f new ≡ weigh f (run_chunks run) + empty_weight f mid)
     (λ run. HasNone (first_of run) (chunks_for run.size) old × HasEmpty (first_of run) (chunks_for run.size) new × SameElsewhere (first_of run) (chunks_for run.size) old new)
-    (λ run it. run_claimed (first_of run) (chunks_for run.size) old new c.args.seat.now.sound.distinct c.claim_among.new.seat.sound.distinct full (λ f. it f ∙ ap (λ (l : List (ℕ × Option g.row.T.Denot)). weigh f (run_chunks run) + empty_weight f l) same))
+    (λ run it. run_claimed (first_of run) (chunks_for run.size) old new c.claim_among.new.seat.sound.distinct full (λ k. it (is_number k) ∙ ap (λ (l : List (ℕ × Option g.row.T.Denot)). weigh (is_number k) (run_chunks run) + empty_weight (is_number k) l) same))
     c.claim_among.ensures.gained
 
 pub returns-clause-kept : goal.returns-clause-kept
@@ -55,5 +56,5 @@ returns-clause-kept g c =
     full_so c.claim_among.result
     (λ seen. (f : ℕ → ℕ) → empty_weight f new ≡ empty_weight f mid)
     (λ seen. (k : ℕ) → content new k ≡ content old k)
-    (λ seen it. nothing_claimed old new c.args.seat.now.sound.distinct c.claim_among.new.seat.sound.distinct full (λ f. it f ∙ ap (empty_weight f) same))
+    (λ seen it. nothing_claimed old new c.claim_among.new.seat.sound.distinct full (λ k. it (is_number k) ∙ ap (empty_weight (is_number k)) same))
     c.claim_among.ensures.held

@@ -27,7 +27,7 @@ returns-clause-gone g c =
     let first : ℕ = first_of c.args.run in
     let n : ℕ = chunks_for c.args.run.size in
     let view : me' ≡ given_back did first n me = c.give_back.ensures.view ∙ ap (λ (m : ℕ). given_back did first m me) c.chunk_count.ensures in
-    (given_back_run first n me me' c.args.seat.now.sound.distinct c.give_back.new.seat.sound.distinct view c.requires.empty).0
+    (given_back_run first n me me' c.args.seat.now.sound.distinct view c.requires.empty).0
 
 pub returns-clause-elsewhere : goal.returns-clause-elsewhere
 returns-clause-elsewhere g c =
@@ -36,4 +36,4 @@ returns-clause-elsewhere g c =
     let first : ℕ = first_of c.args.run in
     let n : ℕ = chunks_for c.args.run.size in
     let view : me' ≡ given_back did first n me = c.give_back.ensures.view ∙ ap (λ (m : ℕ). given_back did first m me) c.chunk_count.ensures in
-    (given_back_run first n me me' c.args.seat.now.sound.distinct c.give_back.new.seat.sound.distinct view c.requires.empty).1
+    (given_back_run first n me me' c.args.seat.now.sound.distinct view c.requires.empty).1

@@ -1,0 +1,4 @@
+use Rattle.conn_machine.proofs.machine.Machine.on_late.Goals as goal
+
+pub returns-clause-ok : goal.returns-clause-ok
+returns-clause-ok g c = c.conclude.ensures.ok

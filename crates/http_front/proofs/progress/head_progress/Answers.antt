@@ -1,8 +1,0 @@
-use Rattle.http_front.proofs.SearchLemmas.{search_start}
-use Rattle.http_front.proofs.progress.head_progress.Goals as goal
-
-pub search_on-requires : goal.search_on-requires
-search_on-requires c = search_start c.args.bytes.now
-
-pub returns-in-None : goal.returns-in-None
-returns-in-None c max_body due = search_start c.args.bytes.now
