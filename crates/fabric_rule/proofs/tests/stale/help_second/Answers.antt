@@ -2,8 +2,5 @@ use Rattle.std.proofs.Common.{rules, refl}
 use Rattle.nncq_ring.specs.declared.view.RingEvent.TheVariants.{SawEntry}
 use Rattle.fabric_rule.proofs.tests.stale.help_second.Goals as goal
 
-pub help-requires-clause-saw : goal.help-requires-clause-saw
-help-requires-clause-saw c = (2, search rules)
-
 pub help-requires-clause-above : goal.help-requires-clause-above
 help-requires-clause-above c = (0, SawEntry 16 16, search rules, (refl, search rules))
